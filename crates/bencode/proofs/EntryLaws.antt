@@ -1,0 +1,49 @@
+-- Laws of the search for a key in a dictionary: one for each way through it.
+-- Assumes nothing.
+use Prim.Native.Nat.{ℕ}
+use mathlib.Core.Path.{_≡_, refl}
+use mathlib.Core.Bool.{Bool, true, false, cond}
+use mathlib.Core.List.{List}
+use native.Mathlib.Omega.{arith}
+use Rattle.bencode.specs.declared.entry.Entry.{Entry}
+use Rattle.bencode.specs.declared.fault.Fault.{Fault}
+use Rattle.bencode.specs.declared.string.Text.{Text}
+use Rattle.bencode.specs.Bytes.{part, same}
+use Rattle.bencode.specs.Loop.{next, done, after}
+use Rattle.bencode.specs.String.{stringAt}
+use Rattle.bencode.specs.Skip.{skipValue}
+use Rattle.bencode.specs.Entry.{matched, findStep, entryAt}
+use Rattle.bencode.proofs.LoopLaws.{Past, Onward, repeat-step}
+use Rattle.bencode.proofs.Ends.{string-whole-inv}
+use Rattle.bencode.proofs.SkipLaws.{skip-range}
+
+module _ (s key : List ℕ) where
+  find-onward : Onward s (findStep s key)
+  find-onward at x to y e = go (stringAt s at) refl e
+    where
+      past : (start end : ℕ) → stringAt s at ≡ Text.Bytes start end → (t : Bool) → cond t (done (Entry.At end)) (next (skipValue s end) x) ≡ next to y → Past s at to
+      past start end q true e = let z : _≡_ {A = ℕ} 0 1 = cc in absurd (omega arith)
+      past start end q false e =
+          let i : skipValue s end ≡ to = cc in
+          let w = string-whole-inv s at start end q in
+          let r = skip-range s end 0 (w .within) in
+          omega arith
+
+      go : (w : Text) → stringAt s at ≡ w → matched s key x w ≡ next to y → Past s at to
+      go (Text.Fault f) q e = let z : _≡_ {A = ℕ} 0 1 = cc in absurd (omega arith)
+      go (Text.Bytes start end) q e = past start end q (same (part s start end) key) e
+
+  find-step : (at : ℕ) → entryAt s key at ≡ after (findStep s key at tt) (λ to y. entryAt s key to)
+  unfolding entryAt
+  find-step at = repeat-step s (findStep s key) find-onward (λ (k : ℕ). Entry.Missing) at tt
+
+  module _ (at : ℕ) where
+    pub find-none : (f : Fault) → stringAt s at ≡ Text.Fault f → Entry.Missing ≡ entryAt s key at
+    find-none f e = rw (find-step at, e) refl
+
+    module _ (start end : ℕ) (e : stringAt s at ≡ Text.Bytes start end) where
+      pub find-here : same (part s start end) key ≡ true → Entry.At end ≡ entryAt s key at
+      find-here h = rw (find-step at, e, h) refl
+
+      pub find-more : same (part s start end) key ≡ false → entryAt s key (skipValue s end) ≡ entryAt s key at
+      find-more h = rw (find-step at, e, h) refl

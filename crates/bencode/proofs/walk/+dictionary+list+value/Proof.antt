@@ -1,0 +1,386 @@
+-- The proof of the cycle of calls {dictionary, list, value}. The measure of `value` is twice the levels left; `list` and `dictionary` are called with one level less left and call `value` with as many, so theirs lie between.
+-- In the loops the bytes left fall. Their invariants say that what is left to walk comes to the same as the whole; for a dictionary also that `seen` is what is kept of the keys so far.
+-- Each return cites the law of `WalkLaws` for that way. Nothing here says which keys are allowed: that is `KeyLaws`.
+-- Assumes nothing.
+use Prim.Native.Nat.{ℕ, _+_, _-_, _*_, _<_}
+use mathlib.Core.Path.{_≡_, refl, sym, _∙_}
+use mathlib.Core.List.{List, [], _∷_}
+use native.Mathlib.Omega.{arith}
+use borrow.Author.Needs.{needs}
+use lib.ListN.{length}
+use Rattle.bencode.specs.declared.string.Text.{Text}
+use Rattle.bencode.specs.String.{stringAt}
+use Rattle.bencode.specs.Bytes.{part}
+use Rattle.bencode.specs.Depth.{levelsLeft}
+use Rattle.bencode.specs.Walk.{valueAt, listAt, dictionaryAt, dictionaryFrom}
+use Rattle.bencode.proofs.NumeralLaws.{inside}
+use Rattle.bencode.proofs.Ends.{string-whole-inv}
+use Rattle.bencode.proofs.WalkLaws.{value-ends, value-scalar, value-list, value-dictionary, value-deep-list, value-deep-dictionary, list-end, list-fault, list-more, dictionary-end, dictionary-no-key, dictionary-refused, dictionary-fault, dictionary-more}
+use Rattle.bencode.proofs.DepthLaws.{deeper-left, too-deep-left}
+use Rattle.bencode.proofs.KeyLaws.{Kept, kept-none, key-allowed, key-refused}
+use borrow.Fn.Kinds.{In}
+use borrow.Fn.PlainCycle.{Measures, is, falls, and}
+use Rattle.bencode.proofs.walk.dictionary.Reads as dictionary
+use Rattle.bencode.proofs.walk.dictionary.Kinds as dictionary-kinds
+use Rattle.bencode.proofs.walk.+dictionary+list+value.Lts-dictionary as dictionary-lts
+use Rattle.bencode.proofs.walk.list.Reads as list
+use Rattle.bencode.proofs.walk.list.Kinds as list-kinds
+use Rattle.bencode.proofs.walk.+dictionary+list+value.Lts-list as list-lts
+use Rattle.bencode.proofs.walk.value.Reads as value
+use Rattle.bencode.proofs.walk.value.Kinds as value-kinds
+use Rattle.bencode.proofs.walk.+dictionary+list+value.Lts-value as value-lts
+use Rattle.bencode.proofs.bytes.byte_at.Reads as byte-at-reads
+use Rattle.bencode.proofs.depth.Depth.nested.Reads as nested-reads
+use Rattle.bencode.proofs.key.check_key.Reads as check-key-reads
+use Rattle.bencode.proofs.scalar.scalar_end.Reads as scalar-end-reads
+use Rattle.bencode.proofs.string.string.Reads as string-reads
+use Rattle.bencode.proofs.walk.+dictionary+list+value.{statement}
+use Rattle.bencode.proofs.walk.+dictionary+list+value.Tie.{close}
+
+abbrev μ-dictionary : Measures 1 dictionary-kinds.ps ℕ
+μ-dictionary κs a = 2 * levelsLeft (a .1 .1 .0) + 1
+
+abbrev μ-list : Measures 1 list-kinds.ps ℕ
+μ-list κs a = 2 * levelsLeft (a .1 .1 .0) + 1
+
+abbrev μ-value : Measures 1 value-kinds.ps ℕ
+μ-value κs a = 2 * levelsLeft (a .1 .1 .0)
+
+abbrev dictionary-at : ℕ → In 1 dictionary-kinds.ps
+dictionary-at t =
+    and 1 dictionary-kinds.ps (is 1 dictionary-kinds.ps μ-dictionary t) dictionary.Pre
+
+abbrev dictionary-below : ℕ → In 1 dictionary-kinds.ps
+dictionary-below t =
+    and 1 dictionary-kinds.ps (falls 1 dictionary-kinds.ps _<_ μ-dictionary t) dictionary.Pre
+
+abbrev list-at : ℕ → In 1 list-kinds.ps
+list-at t = and 1 list-kinds.ps (is 1 list-kinds.ps μ-list t) list.Pre
+
+abbrev list-below : ℕ → In 1 list-kinds.ps
+list-below t = and 1 list-kinds.ps (falls 1 list-kinds.ps _<_ μ-list t) list.Pre
+
+abbrev value-at : ℕ → In 1 value-kinds.ps
+value-at t = and 1 value-kinds.ps (is 1 value-kinds.ps μ-value t) value.Pre
+
+abbrev value-below : ℕ → In 1 value-kinds.ps
+value-below t = and 1 value-kinds.ps (falls 1 value-kinds.ps _<_ μ-value t) value.Pre
+
+-- what `dictionary` may ask and learn of the functions that it calls
+abbrev dictionary-calls : ℕ → dictionary-lts.Claims
+dictionary-calls t = (byte-at-reads.Asked, byte-at-reads.Learnt, string-reads.Asked, string-reads.Learnt, check-key-reads.Asked, check-key-reads.Learnt, value-below t, value.Post)
+
+-- what `list` may ask and learn of the functions that it calls
+abbrev list-calls : ℕ → list-lts.Claims
+list-calls t = (byte-at-reads.Asked, byte-at-reads.Learnt, value-below t, value.Post)
+
+-- what `value` may ask and learn of the functions that it calls
+abbrev value-calls : ℕ → value-lts.Claims
+value-calls t = (byte-at-reads.Asked, byte-at-reads.Learnt, nested-reads.Asked, nested-reads.Learnt, list-below t, list.Post, dictionary-below t, dictionary.Post, scalar-end-reads.Asked, scalar-end-reads.Learnt)
+
+abbrev dictionary-Inv-loop : dictionary-lts.InvT-loop
+dictionary-Inv-loop s from depth profile at₀ seen₀ at seen = (keys : List (List ℕ)) × Kept (valueAt profile (levelsLeft depth) s) s seen at keys × (dictionaryFrom profile (valueAt profile (levelsLeft depth) s) s at keys ≡ dictionaryAt profile (levelsLeft depth) s from)
+
+abbrev dictionary-μ-loop : dictionary-lts.MeasureT-loop
+dictionary-μ-loop s from depth profile at₀ seen₀ at seen = length s - at
+
+dictionary-loop-holds : (t : ℕ) → dictionary-lts.Need-loop-holds (dictionary-calls t) (dictionary-at t) dictionary.Post dictionary-Inv-loop dictionary-μ-loop
+dictionary-loop-holds t c = ([], kept-none (valueAt (c .before .args .profile) (levelsLeft (c .before .args .depth)) (c .before .args .s .now)) (c .before .args .s .now) (c .before .args .from), refl)
+
+dictionary-byte-at-requires : (t : ℕ) → dictionary-lts.Need-byte-at-requires (dictionary-calls t) (dictionary-at t) dictionary.Post dictionary-Inv-loop dictionary-μ-loop
+dictionary-byte-at-requires t c κs = tt
+
+dictionary-add-t16 : (t : ℕ) → dictionary-lts.Need-add-t16 (dictionary-calls t) (dictionary-at t) dictionary.Post dictionary-Inv-loop dictionary-μ-loop
+dictionary-add-t16 t c =
+    let a = c .before .before .before .before .args in
+    let s = a .s .now in
+    let l = c .before .before .loop in
+    omega (arith, inside s (l .at) (omega (arith, c .before .byte-at .ensures)))
+
+dictionary-returns : (t : ℕ) → dictionary-lts.Need-returns (dictionary-calls t) (dictionary-at t) dictionary.Post dictionary-Inv-loop dictionary-μ-loop
+dictionary-returns t c =
+    let a = c .before .before .before .before .args in
+    let s = a .s .now in
+    let l = c .before .before .loop in
+    dictionary-end (a .profile) (levelsLeft (a .depth)) s (l .at) (l .inv .0) (omega (arith, c .before .byte-at .ensures)) ∙ l .inv .2
+
+dictionary-string-requires : (t : ℕ) → dictionary-lts.Need-string-requires (dictionary-calls t) (dictionary-at t) dictionary.Post dictionary-Inv-loop dictionary-μ-loop
+dictionary-string-requires t c κs = tt
+
+dictionary-enum-known-f : (t : ℕ) → dictionary-lts.Need-enum-known-f (dictionary-calls t) (dictionary-at t) dictionary.Post dictionary-Inv-loop dictionary-μ-loop
+dictionary-enum-known-f t c = search needs
+
+dictionary-returns-2 : (t : ℕ) → dictionary-lts.Need-returns-2 (dictionary-calls t) (dictionary-at t) dictionary.Post dictionary-Inv-loop dictionary-μ-loop
+dictionary-returns-2 t c =
+    let a = c .before .before .before .before .before .before .before .before .args in
+    let s = a .s .now in
+    let l = c .before .before .before .before .before .before .loop in
+    dictionary-no-key (a .profile) (levelsLeft (a .depth)) s (l .at) (l .inv .0) (λ e. c .before .before .before .before .if1 .left (c .before .before .before .before .before .byte-at .ensures ∙ e)) (c .before .f .given .0 .0) (sym (c .before .before .before .string .ensures) ∙ c .before .f .given .1) ∙ l .inv .2
+
+dictionary-enum-known-start : (t : ℕ) → dictionary-lts.Need-enum-known-start (dictionary-calls t) (dictionary-at t) dictionary.Post dictionary-Inv-loop dictionary-μ-loop
+dictionary-enum-known-start t c = search needs
+
+dictionary-check-key-requires : (t : ℕ) → dictionary-lts.Need-check-key-requires (dictionary-calls t) (dictionary-at t) dictionary.Post dictionary-Inv-loop dictionary-μ-loop
+dictionary-check-key-requires t c κs =
+    let a = c .before .before .before .before .before .before .before .before .args in
+    let s = a .s .now in
+    let l = c .before .before .before .before .before .before .loop in
+    let k = c .before .start .given in
+    let text : stringAt s (l .at) ≡ Text.Bytes (k .0 .0) (k .0 .1 .0) = sym (c .before .before .before .string .ensures) ∙ k .1 in
+    let w = string-whole-inv s (l .at) (k .0 .0) (k .0 .1 .0) text in
+    (w .ordered, w .within)
+
+dictionary-enum-known-code : (t : ℕ) → dictionary-lts.Need-enum-known-code (dictionary-calls t) (dictionary-at t) dictionary.Post dictionary-Inv-loop dictionary-μ-loop
+dictionary-enum-known-code t c = search needs
+
+dictionary-returns-3 : (t : ℕ) → dictionary-lts.Need-returns-3 (dictionary-calls t) (dictionary-at t) dictionary.Post dictionary-Inv-loop dictionary-μ-loop
+dictionary-returns-3 t c =
+    let a = c .before .before .before .before .before .before .before .before .before .before .before .before .args in
+    let s = a .s .now in
+    let l = c .before .before .before .before .before .before .before .before .before .before .loop in
+    let k = c .before .before .before .before .before .start .given in
+    let text : stringAt s (l .at) ≡ Text.Bytes (k .0 .0) (k .0 .1 .0) = sym (c .before .before .before .before .before .before .before .string .ensures) ∙ k .1 in
+    let n = c .before .code .given in
+    let no = key-refused (a .profile) (levelsLeft (a .depth)) s (l .seen) (l .at) (l .inv .0) (l .inv .1) (k .0 .0) (k .0 .1 .0) text (n .0 .0) (sym (c .before .before .before .check-key .ensures) ∙ n .1) in
+    dictionary-refused (a .profile) (levelsLeft (a .depth)) s (l .at) (l .inv .0) (λ e. c .before .before .before .before .before .before .before .before .if1 .left (c .before .before .before .before .before .before .before .before .before .byte-at .ensures ∙ e)) (k .0 .0) (k .0 .1 .0) text (n .0 .0) no ∙ l .inv .2
+
+dictionary-enum-known-next : (t : ℕ) → dictionary-lts.Need-enum-known-next (dictionary-calls t) (dictionary-at t) dictionary.Post dictionary-Inv-loop dictionary-μ-loop
+dictionary-enum-known-next t c = search needs
+
+dictionary-value-requires : (t : ℕ) → dictionary-lts.Need-value-requires (dictionary-calls t) (dictionary-at t) dictionary.Post dictionary-Inv-loop dictionary-μ-loop
+dictionary-value-requires t c κs = (omega (arith, c .before .before .before .before .before .before .before .before .before .before .before .before .pre .0), c .before .before .before .before .before .before .before .before .before .before .before .before .pre .1)
+
+dictionary-enum-known-e : (t : ℕ) → dictionary-lts.Need-enum-known-e (dictionary-calls t) (dictionary-at t) dictionary.Post dictionary-Inv-loop dictionary-μ-loop
+dictionary-enum-known-e t c = search needs
+
+dictionary-loop-less : (t : ℕ) → dictionary-lts.Need-loop-less (dictionary-calls t) (dictionary-at t) dictionary.Post dictionary-Inv-loop dictionary-μ-loop
+dictionary-loop-less t c =
+    let a = c .before .before .before .before .before .before .before .before .before .before .before .before .before .before .before .before .args in
+    let s = a .s .now in
+    let l = c .before .before .before .before .before .before .before .before .before .before .before .before .before .before .loop in
+    let k = c .before .before .before .before .before .before .before .before .before .start .given in
+    let text : stringAt s (l .at) ≡ Text.Bytes (k .0 .0) (k .0 .1 .0) = sym (c .before .before .before .before .before .before .before .before .before .before .before .string .ensures) ∙ k .1 in
+    let w = string-whole-inv s (l .at) (k .0 .0) (k .0 .1 .0) text in
+    omega (arith, value-ends (a .profile) (levelsLeft (a .depth)) s (k .0 .1 .0) (c .before .e .given .0 .0) (sym (c .before .before .before .value .ensures) ∙ c .before .e .given .1))
+
+dictionary-loop-again : (t : ℕ) → dictionary-lts.Need-loop-again (dictionary-calls t) (dictionary-at t) dictionary.Post dictionary-Inv-loop dictionary-μ-loop
+dictionary-loop-again t c =
+    let a = c .before .before .before .before .before .before .before .before .before .before .before .before .before .before .before .before .args in
+    let s = a .s .now in
+    let l = c .before .before .before .before .before .before .before .before .before .before .before .before .before .before .loop in
+    let k = c .before .before .before .before .before .before .before .before .before .start .given in
+    let text : stringAt s (l .at) ≡ Text.Bytes (k .0 .0) (k .0 .1 .0) = sym (c .before .before .before .before .before .before .before .before .before .before .before .string .ensures) ∙ k .1 in
+    let ok = key-allowed (a .profile) (levelsLeft (a .depth)) s (l .seen) (l .at) (l .inv .0) (l .inv .1) (k .0 .0) (k .0 .1 .0) text (c .before .before .before .before .before .next .given .0 .0) (sym (c .before .before .before .before .before .before .before .check-key .ensures) ∙ c .before .before .before .before .before .next .given .1) in
+    let value = sym (c .before .before .before .value .ensures) ∙ c .before .e .given .1 in (
+      part s (k .0 .0) (k .0 .1 .0) ∷ l .inv .0,
+      ok .1 (c .before .e .given .0 .0) value,
+      dictionary-more (a .profile) (levelsLeft (a .depth)) s (l .at) (l .inv .0) (λ e. c .before .before .before .before .before .before .before .before .before .before .before .before .if1 .left (c .before .before .before .before .before .before .before .before .before .before .before .before .before .byte-at .ensures ∙ e)) (k .0 .0) (k .0 .1 .0) text (ok .0) (c .before .e .given .0 .0) value ∙ l .inv .2,
+    )
+
+dictionary-enum-known-f-2 : (t : ℕ) → dictionary-lts.Need-enum-known-f-2 (dictionary-calls t) (dictionary-at t) dictionary.Post dictionary-Inv-loop dictionary-μ-loop
+dictionary-enum-known-f-2 t c = search needs
+
+dictionary-returns-4 : (t : ℕ) → dictionary-lts.Need-returns-4 (dictionary-calls t) (dictionary-at t) dictionary.Post dictionary-Inv-loop dictionary-μ-loop
+dictionary-returns-4 t c =
+    let a = c .before .before .before .before .before .before .before .before .before .before .before .before .before .before .before .before .args in
+    let s = a .s .now in
+    let l = c .before .before .before .before .before .before .before .before .before .before .before .before .before .before .loop in
+    let k = c .before .before .before .before .before .before .before .before .before .start .given in
+    let text : stringAt s (l .at) ≡ Text.Bytes (k .0 .0) (k .0 .1 .0) = sym (c .before .before .before .before .before .before .before .before .before .before .before .string .ensures) ∙ k .1 in
+    let ok = key-allowed (a .profile) (levelsLeft (a .depth)) s (l .seen) (l .at) (l .inv .0) (l .inv .1) (k .0 .0) (k .0 .1 .0) text (c .before .before .before .before .before .next .given .0 .0) (sym (c .before .before .before .before .before .before .before .check-key .ensures) ∙ c .before .before .before .before .before .next .given .1) in
+    dictionary-fault (a .profile) (levelsLeft (a .depth)) s (l .at) (l .inv .0) (λ e. c .before .before .before .before .before .before .before .before .before .before .before .before .if1 .left (c .before .before .before .before .before .before .before .before .before .before .before .before .before .byte-at .ensures ∙ e)) (k .0 .0) (k .0 .1 .0) text (ok .0) (c .before .f2 .given .0 .0) (sym (c .before .before .before .value .ensures) ∙ c .before .f2 .given .1) ∙ l .inv .2
+
+abbrev list-Inv-loop : list-lts.InvT-loop
+list-Inv-loop s from depth profile at₀ at = listAt profile (levelsLeft depth) s at ≡ listAt profile (levelsLeft depth) s from
+
+abbrev list-μ-loop : list-lts.MeasureT-loop
+list-μ-loop s from depth profile at₀ at = length s - at
+
+list-loop-holds : (t : ℕ) → list-lts.Need-loop-holds (list-calls t) (list-at t) list.Post list-Inv-loop list-μ-loop
+list-loop-holds t c = refl
+
+list-byte-at-requires : (t : ℕ) → list-lts.Need-byte-at-requires (list-calls t) (list-at t) list.Post list-Inv-loop list-μ-loop
+list-byte-at-requires t c κs = tt
+
+list-add-t10 : (t : ℕ) → list-lts.Need-add-t10 (list-calls t) (list-at t) list.Post list-Inv-loop list-μ-loop
+list-add-t10 t c =
+    let a = c .before .before .before .before .args in
+    let s = a .s .now in
+    let l = c .before .before .loop in
+    omega (arith, inside s (l .at) (omega (arith, c .before .byte-at .ensures)))
+
+list-returns : (t : ℕ) → list-lts.Need-returns (list-calls t) (list-at t) list.Post list-Inv-loop list-μ-loop
+list-returns t c =
+    let a = c .before .before .before .before .args in
+    let s = a .s .now in
+    let l = c .before .before .loop in
+    list-end (a .profile) (levelsLeft (a .depth)) s (l .at) (omega (arith, c .before .byte-at .ensures)) ∙ l .inv
+
+list-value-requires : (t : ℕ) → list-lts.Need-value-requires (list-calls t) (list-at t) list.Post list-Inv-loop list-μ-loop
+list-value-requires t c κs = (omega (arith, c .before .before .before .before .pre .0), c .before .before .before .before .pre .1)
+
+list-enum-known-end : (t : ℕ) → list-lts.Need-enum-known-end (list-calls t) (list-at t) list.Post list-Inv-loop list-μ-loop
+list-enum-known-end t c = search needs
+
+list-loop-less : (t : ℕ) → list-lts.Need-loop-less (list-calls t) (list-at t) list.Post list-Inv-loop list-μ-loop
+list-loop-less t c =
+    let a = c .before .before .before .before .before .before .before .before .args in
+    let s = a .s .now in
+    let l = c .before .before .before .before .before .before .loop in
+    omega (arith, value-ends (a .profile) (levelsLeft (a .depth)) s (l .at) (c .before .end .given .0 .0) (sym (c .before .before .before .value .ensures) ∙ c .before .end .given .1))
+
+list-loop-again : (t : ℕ) → list-lts.Need-loop-again (list-calls t) (list-at t) list.Post list-Inv-loop list-μ-loop
+list-loop-again t c =
+    let a = c .before .before .before .before .before .before .before .before .args in
+    let s = a .s .now in
+    let l = c .before .before .before .before .before .before .loop in
+    list-more (a .profile) (levelsLeft (a .depth)) s (l .at) (λ e. c .before .before .before .before .if1 .left (c .before .before .before .before .before .byte-at .ensures ∙ e)) (c .before .end .given .0 .0) (sym (c .before .before .before .value .ensures) ∙ c .before .end .given .1) ∙ l .inv
+
+list-enum-known-f : (t : ℕ) → list-lts.Need-enum-known-f (list-calls t) (list-at t) list.Post list-Inv-loop list-μ-loop
+list-enum-known-f t c = search needs
+
+list-returns-2 : (t : ℕ) → list-lts.Need-returns-2 (list-calls t) (list-at t) list.Post list-Inv-loop list-μ-loop
+list-returns-2 t c =
+    let a = c .before .before .before .before .before .before .before .before .args in
+    let s = a .s .now in
+    let l = c .before .before .before .before .before .before .loop in
+    list-fault (a .profile) (levelsLeft (a .depth)) s (l .at) (λ e. c .before .before .before .before .if1 .left (c .before .before .before .before .before .byte-at .ensures ∙ e)) (c .before .f .given .0 .0) (sym (c .before .before .before .value .ensures) ∙ c .before .f .given .1) ∙ l .inv
+
+value-byte-at-requires : (t : ℕ) → value-lts.Need-byte-at-requires (value-calls t) (value-at t) value.Post
+value-byte-at-requires t c κs = tt
+
+value-nested-requires : (t : ℕ) → value-lts.Need-nested-requires (value-calls t) (value-at t) value.Post
+value-nested-requires t c κs = tt
+
+value-enum-known-inner : (t : ℕ) → value-lts.Need-enum-known-inner (value-calls t) (value-at t) value.Post
+value-enum-known-inner t c = search needs
+
+value-add-list : (t : ℕ) → value-lts.Need-add-list (value-calls t) (value-at t) value.Post
+value-add-list t c =
+    let a = c .before .before .before .before .before .before .before .args in
+    let s = a .s .now in
+    omega (arith, inside s (a .at) (omega (arith, c .before .before .before .before .before .byte-at .ensures)))
+
+value-list-requires : (t : ℕ) → value-lts.Need-list-requires (value-calls t) (value-at t) value.Post
+value-list-requires t c κs =
+    let d = deeper-left (c .before .before .before .before .before .before .before .args .depth) (c .before .inner .given .0 .0) (sym (c .before .before .before .nested .ensures) ∙ c .before .inner .given .1) in
+    (omega (arith, c .before .before .before .before .before .before .before .pre .0), d .1)
+
+value-enum-told : (t : ℕ) → value-lts.Need-enum-told (value-calls t) (value-at t) value.Post
+value-enum-told t c = search needs
+
+value-returns : (t : ℕ) → value-lts.Need-returns (value-calls t) (value-at t) value.Post
+value-returns t c =
+    let a = c .before .before .before .before .before .before .before .before .args in
+    let s = a .s .now in
+    let d = deeper-left (a .depth) (c .before .before .inner .given .0 .0) (sym (c .before .before .before .before .nested .ensures) ∙ c .before .before .inner .given .1) in
+    c .list .ensures ∙ value-list (a .profile) (levelsLeft (a .depth)) (levelsLeft (c .before .before .inner .given .0 .0)) s (a .at) (d .0) (sym (c .before .before .before .before .before .before .byte-at .ensures) ∙ c .before .before .before .before .before .if1 .taken)
+
+value-returns-2 : (t : ℕ) → value-lts.Need-returns-2 (value-calls t) (value-at t) value.Post
+value-returns-2 t c =
+    let a = c .before .before .before .before .before .before .args in
+    let s = a .s .now in
+    value-deep-list (a .profile) (levelsLeft (a .depth)) s (a .at) (too-deep-left (a .depth) (sym (c .before .before .nested .ensures) ∙ c .enum-told .given .1)) (sym (c .before .before .before .before .byte-at .ensures) ∙ c .before .before .before .if1 .taken)
+
+value-nested-requires-2 : (t : ℕ) → value-lts.Need-nested-requires-2 (value-calls t) (value-at t) value.Post
+value-nested-requires-2 t c κs = tt
+
+value-enum-known-inner-2 : (t : ℕ) → value-lts.Need-enum-known-inner-2 (value-calls t) (value-at t) value.Post
+value-enum-known-inner-2 t c = search needs
+
+value-add-dictionary : (t : ℕ) → value-lts.Need-add-dictionary (value-calls t) (value-at t) value.Post
+value-add-dictionary t c =
+    let a = c .before .before .before .before .before .before .before .before .args in
+    let s = a .s .now in
+    omega (arith, inside s (a .at) (omega (arith, c .before .before .before .before .before .before .byte-at .ensures)))
+
+value-dictionary-requires : (t : ℕ) → value-lts.Need-dictionary-requires (value-calls t) (value-at t) value.Post
+value-dictionary-requires t c κs =
+    let d = deeper-left (c .before .before .before .before .before .before .before .before .args .depth) (c .before .inner2 .given .0 .0) (sym (c .before .before .before .nested2 .ensures) ∙ c .before .inner2 .given .1) in
+    (omega (arith, c .before .before .before .before .before .before .before .before .pre .0), d .1)
+
+value-enum-told-2 : (t : ℕ) → value-lts.Need-enum-told-2 (value-calls t) (value-at t) value.Post
+value-enum-told-2 t c = search needs
+
+value-returns-3 : (t : ℕ) → value-lts.Need-returns-3 (value-calls t) (value-at t) value.Post
+value-returns-3 t c =
+    let a = c .before .before .before .before .before .before .before .before .before .args in
+    let s = a .s .now in
+    let d = deeper-left (a .depth) (c .before .before .inner2 .given .0 .0) (sym (c .before .before .before .before .nested2 .ensures) ∙ c .before .before .inner2 .given .1) in
+    c .dictionary .ensures ∙ value-dictionary (a .profile) (levelsLeft (a .depth)) (levelsLeft (c .before .before .inner2 .given .0 .0)) s (a .at) (d .0) (sym (c .before .before .before .before .before .before .before .byte-at .ensures) ∙ c .before .before .before .before .before .if2 .taken)
+
+value-returns-4 : (t : ℕ) → value-lts.Need-returns-4 (value-calls t) (value-at t) value.Post
+value-returns-4 t c =
+    let a = c .before .before .before .before .before .before .before .args in
+    let s = a .s .now in
+    value-deep-dictionary (a .profile) (levelsLeft (a .depth)) s (a .at) (too-deep-left (a .depth) (sym (c .before .before .nested2 .ensures) ∙ c .enum-told2 .given .1)) (sym (c .before .before .before .before .before .byte-at .ensures) ∙ c .before .before .before .if2 .taken)
+
+value-scalar-end-requires : (t : ℕ) → value-lts.Need-scalar-end-requires (value-calls t) (value-at t) value.Post
+value-scalar-end-requires t c κs = tt
+
+value-returns-5 : (t : ℕ) → value-lts.Need-returns-5 (value-calls t) (value-at t) value.Post
+value-returns-5 t c =
+    let a = c .before .before .before .before .before .args in
+    let s = a .s .now in
+    c .scalar-end .ensures ∙ value-scalar (a .profile) (levelsLeft (a .depth)) s (a .at) (λ e. c .before .before .if1 .left (c .before .before .before .byte-at .ensures ∙ e)) (λ e. c .before .if2 .left (c .before .before .before .byte-at .ensures ∙ e))
+
+pub +dictionary+list+value-spec : {M : Type 1} → statement M
++dictionary+list+value-spec = close μ-dictionary μ-list μ-value (λ t. dictionary-lts.spec (dictionary-calls t)
+    (dictionary-at t)
+    dictionary.Post
+    dictionary-Inv-loop
+    dictionary-μ-loop
+    (dictionary-loop-holds t)
+    (dictionary-byte-at-requires t)
+    (dictionary-add-t16 t)
+    (dictionary-returns t)
+    (dictionary-string-requires t)
+    (dictionary-enum-known-f t)
+    (dictionary-returns-2 t)
+    (dictionary-enum-known-start t)
+    (dictionary-check-key-requires t)
+    (dictionary-enum-known-code t)
+    (dictionary-returns-3 t)
+    (dictionary-enum-known-next t)
+    (dictionary-value-requires t)
+    (dictionary-enum-known-e t)
+    (dictionary-loop-less t)
+    (dictionary-loop-again t)
+    (dictionary-enum-known-f-2 t)
+    (dictionary-returns-4 t))
+    (λ t. list-lts.spec
+    (list-calls t)
+    (list-at t)
+    list.Post
+    list-Inv-loop
+    list-μ-loop
+    (list-loop-holds t)
+    (list-byte-at-requires t)
+    (list-add-t10 t)
+    (list-returns t)
+    (list-value-requires t)
+    (list-enum-known-end t)
+    (list-loop-less t)
+    (list-loop-again t)
+    (list-enum-known-f t)
+    (list-returns-2 t))
+    λ t. value-lts.spec (value-calls t)
+    (value-at t)
+    value.Post
+    (value-byte-at-requires t)
+    (value-nested-requires t)
+    (value-enum-known-inner t)
+    (value-add-list t)
+    (value-list-requires t)
+    (value-enum-told t)
+    (value-returns t)
+    (value-returns-2 t)
+    (value-nested-requires-2 t)
+    (value-enum-known-inner-2 t)
+    (value-add-dictionary t)
+    (value-dictionary-requires t)
+    (value-enum-told-2 t)
+    (value-returns-3 t)
+    (value-returns-4 t)
+    (value-scalar-end-requires t)
+    (value-returns-5 t)

@@ -1,0 +1,50 @@
+-- Integers: `i`, an optional `-`, decimal digits, `e`; no leading zero, no `-0` (document 01, 'The frame').
+-- Assumes nothing.
+use Prim.Native.Nat.{ℕ, _+_, _^_}
+use mathlib.Core.Bool.{Bool, true, false, cond}
+use mathlib.Core.List.{List}
+use lib.IntN.{ℤ, pos, negℤ}
+use lib.Signed.{mag}
+use lib.Dec.{ltb, eqb}
+use Rattle.bencode.specs.declared.numeral.Decimal.{Decimal}
+use Rattle.bencode.specs.declared.integer.Number.{Number}
+use Rattle.bencode.specs.declared.fault.Walk.{Walk}
+use Rattle.bencode.specs.Bytes.{byteAt}
+use Rattle.bencode.specs.Fault.{fault}
+use Rattle.bencode.specs.Numeral.{numeralAt}
+
+-- an integer with a sign
+abbrev pub signed : Bool → ℕ → ℤ
+signed true n = negℤ (pos n)
+signed false n = pos n
+
+-- the integer z whose `i` is at an offset, where it is in the range of 64 bits; else 6 at the `i`
+abbrev pub inRange : ℕ → ℤ → ℕ → Number
+inRange at z end = cond (ltb (mag z) (2 ^ 63)) (Number.Integer z end) (Number.Fault (fault 6 at))
+
+-- the integer whose digits, from an offset on, are the numeral n: its form is judged before its range
+abbrev pub integerOf : List ℕ → ℕ → ℕ → Bool → Decimal → Number
+integerOf s at from negative n =
+    cond (eqb (n .end) from) (Number.Fault (fault 5 from))
+    (cond (eqb (byteAt s (n .end)) 101)
+    (inRange at (signed negative (n .number)) (n .end + 1))
+    (Number.Fault (fault 5 (n .end))))
+
+unfoldable pub integerFrom : List ℕ → ℕ → ℕ → Bool → Number
+integerFrom s at from negative = integerOf s at from negative (numeralAt s from)
+
+-- the integer at an offset: its value and the offset after it, or the fault
+unfoldable pub integerAt : List ℕ → ℕ → Number
+integerAt s at =
+    cond (eqb (byteAt s at) 105)
+    (cond (eqb (byteAt s (at + 1)) 45)
+    (cond (eqb (byteAt s (at + 2)) 48)
+    (Number.Fault (fault 5 (at + 2)))
+    (integerFrom s at (at + 2) true))
+    (integerFrom s at (at + 1) false))
+    (Number.Fault (fault 5 at))
+
+-- the offset after an integer
+abbrev pub numberEnd : Number → Walk
+numberEnd (Number.Integer z end) = Walk.End end
+numberEnd (Number.Fault f) = Walk.Fault f

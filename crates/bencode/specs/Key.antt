@@ -1,0 +1,26 @@
+-- The key rule: which keys may follow which in a dictionary (document 01, 'The frame': in any order, and no key twice).
+-- Assumes nothing.
+use Prim.Native.Nat.{ℕ}
+use mathlib.Core.Bool.{Bool, true, false, cond, _&&_, _||_}
+use mathlib.Core.List.{List, [], _∷_}
+use Rattle.bencode.specs.declared.profile.Profile.{Profile}
+use Rattle.bencode.specs.Bytes.{same, less}
+
+-- is a key among the earlier ones
+unfoldable pub isUsed : List ℕ → List (List ℕ) → Bool
+isUsed key [] = false
+isUsed key (k ∷ keys) = same k key || isUsed key keys
+
+-- is a key above every earlier one
+unfoldable pub isAbove : List ℕ → List (List ℕ) → Bool
+isAbove key [] = true
+isAbove key (k ∷ keys) = less k key && isAbove key keys
+
+-- the fault of a key that comes once: 11 in the strict profile where it is not above the earlier ones, 0 for none
+abbrev pub orderFault : Profile → Bool → ℕ
+orderFault Profile.Loose rises = 0
+orderFault Profile.Strict rises = cond rises 0 11
+
+-- the fault of a key after the earlier keys of its dictionary, the latest of them first: 8 where it comes again, 0 for none
+unfoldable pub keyFault : Profile → List (List ℕ) → List ℕ → ℕ
+keyFault p keys key = cond (isUsed key keys) 8 (orderFault p (isAbove key keys))

@@ -1,0 +1,16 @@
+pub mod Bytes
+pub mod Loop
+pub mod Fault
+pub mod Numeral
+pub mod String
+pub mod Integer
+pub mod Scalar
+pub mod Depth
+pub mod Key
+pub mod Walk
+pub mod Skip
+pub mod Entry
+pub mod KeySearch
+pub mod Item
+pub mod Value
+pub mod Demands

@@ -1,0 +1,39 @@
+-- Where a value ends that has been walked before: nothing is checked again, and nesting is only counted.
+-- Assumes nothing.
+use Prim.Native.Nat.{ℕ, zero, suc, _+_, _-_}
+use mathlib.Core.Bool.{cond, _||_}
+use mathlib.Core.List.{List}
+use lib.Dec.{eqb}
+use Rattle.bencode.specs.declared.fault.Walk.{Walk}
+use Rattle.bencode.specs.Bytes.{byteAt}
+use Rattle.bencode.specs.Loop.{Step, next, done, repeatFrom}
+use Rattle.bencode.specs.Scalar.{scalarAt}
+
+-- goes on at an offset and a depth, or ends there where nothing is open
+abbrev pub landed : ℕ → ℕ → Step ℕ ℕ
+landed at zero = done at
+landed at (suc depth) = next at (suc depth)
+
+-- after a string or an integer at an offset; where there is none, skipping ends there
+abbrev pub pastScalar : ℕ → ℕ → Walk → Step ℕ ℕ
+pastScalar at depth (Walk.End end) = landed end depth
+pastScalar at depth (Walk.Fault f) = done at
+
+-- a step of skipping: one opening byte, one `e`, one string or one integer
+abbrev pub skipStep : List ℕ → ℕ → ℕ → Step ℕ ℕ
+skipStep s at depth =
+    cond (eqb (byteAt s at) 108 || eqb (byteAt s at) 100) (next (at + 1) (depth + 1))
+    (cond (eqb (byteAt s at) 101) (landed (at + 1) (depth - 1))
+    (pastScalar at depth (scalarAt s at)))
+
+-- skipping on from an offset with so many lists and dictionaries open
+unfoldable pub skipFrom : List ℕ → ℕ → ℕ → ℕ
+skipFrom s at depth = repeatFrom s (skipStep s) at at depth
+
+-- the offset after the value at an offset
+abbrev pub skipValue : List ℕ → ℕ → ℕ
+skipValue s at = skipFrom s at 0
+
+-- the offset after the list or dictionary that an offset stands in, between two of its values
+abbrev pub skipRest : List ℕ → ℕ → ℕ
+skipRest s at = skipFrom s at 1

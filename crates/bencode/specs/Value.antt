@@ -1,0 +1,85 @@
+-- The grammar: bencoded values, how each is written, and which are well formed (BEP 3, and document 01, 'The frame').
+-- Assumes nothing.
+use Prim.Native.Nat.{ℕ, zero, suc, _^_, _<_}
+use mathlib.Core.Path.{_≡_}
+use mathlib.Core.Bool.{cond}
+use mathlib.Core.List.{List, [], _∷_, _++_}
+use lib.IntN.{ℤ, pos, negsuc}
+use lib.Signed.{mag}
+use lib.ListN.{length}
+use Rattle.bencode.specs.declared.profile.Profile.{Profile}
+use Rattle.bencode.specs.Bytes.{same}
+use Rattle.bencode.specs.Numeral.{decimal}
+use Rattle.bencode.specs.Key.{keyFault}
+
+mutual
+  -- an integer, a string, a list of values, or a dictionary of keys and values
+  pub data Value : Type 0 where
+    integer : ℤ → Value
+    string : List ℕ → Value
+    list : Values → Value
+    dictionary : Entries → Value
+
+  pub data Values : Type 0 where
+    no-value : Values
+    value : Value → Values → Values
+
+  pub data Entries : Type 0 where
+    no-entry : Entries
+    entry : List ℕ → Value → Entries → Entries
+
+-- an integer's digits, after `-` where it is negative
+abbrev pub signedDecimal : ℤ → List ℕ
+signedDecimal (pos n) = decimal n
+signedDecimal (negsuc n) = 45 ∷ decimal (suc n)
+
+-- a string: its length, a colon and its bytes
+abbrev pub encodeString : List ℕ → List ℕ
+encodeString text = decimal (length text) ++ (58 ∷ text)
+
+unfoldable mutual
+  -- how a value is written
+  pub encode : Value → List ℕ
+  encode (integer z) = 105 ∷ (signedDecimal z ++ (101 ∷ []))
+  encode (string text) = encodeString text
+  encode (list vs) = 108 ∷ (encodeAll vs ++ (101 ∷ []))
+  encode (dictionary es) = 100 ∷ (encodeEntries es ++ (101 ∷ []))
+
+  pub encodeAll : Values → List ℕ
+  encodeAll no-value = []
+  encodeAll (value v vs) = encode v ++ encodeAll vs
+
+  pub encodeEntries : Entries → List ℕ
+  encodeEntries no-entry = []
+  encodeEntries (entry key v es) = encodeString key ++ (encode v ++ encodeEntries es)
+
+-- every value of a list is well formed
+abbrev pub All : (Value → Type 0) → Values → Type 0
+All formed no-value = Unit {0}
+All formed (value v vs) = formed v × All formed vs
+
+-- every value of a dictionary is well formed, and every key may stand after the earlier ones
+abbrev pub AllEntries : Profile → (Value → Type 0) → List (List ℕ) → Entries → Type 0
+AllEntries p formed keys no-entry = Unit {0}
+AllEntries p formed keys (entry key v es) = (keyFault p keys key ≡ 0) × formed v × AllEntries p formed (key ∷ keys) es
+
+-- a value whose integers are in the range of 64 bits, whose keys are allowed and that is at most so many levels deep
+abbrev pub WellFormed : Profile → ℕ → Value → Type 0
+WellFormed p zero (integer z) = mag z < 2 ^ 63
+WellFormed p zero (string text) = Unit {0}
+WellFormed p zero (list vs) = ⊥
+WellFormed p zero (dictionary es) = ⊥
+WellFormed p (suc levels) (integer z) = mag z < 2 ^ 63
+WellFormed p (suc levels) (string text) = Unit {0}
+WellFormed p (suc levels) (list vs) = All (λ v. WellFormed p levels v) vs
+WellFormed p (suc levels) (dictionary es) = AllEntries p (λ v. WellFormed p levels v) [] es
+
+-- a value, or none
+pub data Found : Type 0 where
+  found : Value → Found
+  missing : Found
+
+-- the value of a key in a dictionary
+abbrev pub lookup : List ℕ → Entries → Found
+lookup key no-entry = missing
+lookup key (entry k v es) = let rest = lookup key es in cond (same k key) (found v) rest
