@@ -20,3 +20,5 @@ pub mod Complete
 pub mod Unique
 pub mod Lookups
 pub mod Grammar
+pub mod Levels
+pub mod FaultCodes

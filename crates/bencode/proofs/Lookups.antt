@@ -13,7 +13,7 @@ use Rattle.bencode.specs.Bytes.{byteAt, part, same, Begins}
 use Rattle.bencode.specs.Fault.{fault}
 use Rattle.bencode.specs.String.{stringAt}
 use Rattle.bencode.specs.Walk.{listFrom, dictionaryFrom, valueAt}
-use Rattle.bencode.specs.Skip.{skipValue}
+use Rattle.bencode.specs.Skip.{skipValue, skipRest}
 use Rattle.bencode.specs.Entry.{entryAt}
 use Rattle.bencode.specs.Value.{no-entry, entry, encodeString, encode, encodeEntries, found, missing, lookup}
 use Rattle.bencode.specs.Demands.{ReadsInteger, ReadsString, SkipsValue, SkipsItems, SkipsEntries, FindsItem, Located, FindsEntry}
@@ -69,17 +69,19 @@ pub finds-entry : FindsEntry
 unfolding encode
 finds-entry p levels no-entry keys s at end key formed b =
     let n = no-string s at (begins-head s at 101 end [] b) in
-    subst (λ (e : Entry). Located s missing e) (find-none s key at (n .0) (n .1)) tt
+    subst (λ (e : Entry). Located p levels s end missing e) (find-none s key at (n .0) (n .1)) tt
 finds-entry p levels (entry k v es) keys s at end key formed b =
     let c = subst (λ (l : List ℕ). Begins s at l end) (entries-text k v es) b in
     let m = at + length (encodeString k) in
     let r = string-reads s at m k (begins-left s at end (encodeString k) (encode v ++ (encodeEntries es ++ (101 ∷ []))) c) in
     let d = begins-right s at end (encodeString k) (encode v ++ (encodeEntries es ++ (101 ∷ []))) c in
     let stands = begins-left s m end (encode v) (encodeEntries es ++ (101 ∷ [])) d in
-    let skipped = skips-value p levels v s m (m + length (encode v)) (formed .1) stands in
-    let rest = finds-entry p levels es (k ∷ keys) s (m + length (encode v)) end key (formed .2) (begins-right s m end (encode v) (encodeEntries es ++ (101 ∷ [])) d) in
-    go (same k key) refl (r .0) m (r .1) (ap (λ (l : List ℕ). same l key) (r .2)) stands skipped rest
+    let after = begins-right s m end (encode v) (encodeEntries es ++ (101 ∷ [])) d in
+    let rest = finds-entry p levels es (k ∷ keys) s (m + length (encode v)) end key (formed .2) after in
+    go (same k key) refl (r .0) m (r .1) (ap (λ (l : List ℕ). same l key) (r .2)) stands (skips-entries p levels es (k ∷ keys) s (m + length (encode v)) end (formed .2) after) rest
   where
-    go : (t : Bool) → same k key ≡ t → (start m : ℕ) → stringAt s at ≡ Text.Bytes start m → same (part s start m) key ≡ same k key → Begins s m (encode v) (m + length (encode v)) → skipValue s m ≡ m + length (encode v) → Located s (lookup key es) (entryAt s key (m + length (encode v))) → Located s (cond t (found v) (lookup key es)) (entryAt s key at)
-    go true q start m x i stands skipped rest = subst (λ (e : Entry). Located s (found v) e) (find-here s key at start m x (i ∙ q)) stands
-    go false q start m x i stands skipped rest = subst (λ (e : Entry). Located s (lookup key es) e) (ap (λ (j : ℕ). entryAt s key j) (sym skipped) ∙ find-more s key at start m x (i ∙ q)) rest
+    go : (t : Bool) → same k key ≡ t → (start m : ℕ) → stringAt s at ≡ Text.Bytes start m → same (part s start m) key ≡ same k key → Begins s m (encode v) (m + length (encode v)) → skipRest s (m + length (encode v)) ≡ end → Located p levels s end (lookup key es) (entryAt s key (m + length (encode v))) → Located p levels s end (cond t (found v) (lookup key es)) (entryAt s key at)
+    go true q start m x i stands skipped rest = subst (λ (e : Entry). Located p levels s end (found v) e) (find-here s key at start m x (i ∙ q)) (formed .1, stands, skipped)
+    go false q start m x i stands skipped rest =
+        let past : skipValue s m ≡ m + length (encode v) = skips-value p levels v s m (m + length (encode v)) (formed .1) stands in
+        subst (λ (e : Entry). Located p levels s end (lookup key es) e) (ap (λ (j : ℕ). entryAt s key j) (sym past) ∙ find-more s key at start m x (i ∙ q)) rest

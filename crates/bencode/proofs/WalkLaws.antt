@@ -70,30 +70,30 @@ module _ (s : List ℕ) (value : ℕ → Walk) (ends : Ends s value) where
     dictionary-onward : Onward s (dictionaryStep p value s)
     dictionary-onward at x to y e = go (eqb (byteAt s at) 101) (stringAt s at) refl e
       where
-        keyed-on : (number end : ℕ) (keys : List (List ℕ)) → at < end → (t : Bool) (w : Walk) → value end ≡ w → cond t (onward w keys) (done (Walk.Fault (fault number at))) ≡ next to y → Past s at to
-        keyed-on number end keys l true (Walk.End k) q e = let i : k ≡ to = cc in omega (arith, ends end k q)
-        keyed-on number end keys l true (Walk.Fault f) q e = let z : _≡_ {A = ℕ} 0 1 = cc in absurd (omega arith)
-        keyed-on number end keys l false w q e = let z : _≡_ {A = ℕ} 0 1 = cc in absurd (omega arith)
+        keyed-on : (f : Fault) (end : ℕ) (keys : List (List ℕ)) → at < end → (t : Bool) (w : Walk) → value end ≡ w → cond t (onward w keys) (done (Walk.Fault f)) ≡ next to y → Past s at to
+        keyed-on f end keys l true (Walk.End k) q e = let i : k ≡ to = cc in omega (arith, ends end k q)
+        keyed-on f end keys l true (Walk.Fault g) q e = let z : _≡_ {A = ℕ} 0 1 = cc in absurd (omega arith)
+        keyed-on f end keys l false w q e = let z : _≡_ {A = ℕ} 0 1 = cc in absurd (omega arith)
 
         go : (t : Bool) (w : Text) → stringAt s at ≡ w → cond t (done (Walk.End (at + 1))) (entryStep p value s at x w) ≡ next to y → Past s at to
         go true w q e = let z : _≡_ {A = ℕ} 0 1 = cc in absurd (omega arith)
         go false (Text.Fault f) q e = let z : _≡_ {A = ℕ} 0 1 = cc in absurd (omega arith)
         go false (Text.Bytes start end) q e =
             let w = string-whole-inv s at start end q in
-            keyed-on (keyFault p x (part s start end)) end (part s start end ∷ x) (omega arith) (eqb (keyFault p x (part s start end)) 0) (value end) refl e
+            keyed-on _ end (part s start end ∷ x) (omega arith) (eqb (keyFault p x (part s start end)) 0) (value end) refl e
 
     dictionary-stops : (at : ℕ) (x : List (List ℕ)) (end : ℕ) → dictionaryStep p value s at x ≡ done (Walk.End end) → Past s at end
     dictionary-stops at x end e = go (eqb (byteAt s at) 101) refl (stringAt s at) e
       where
-        keyed-done : (number : ℕ) (keys : List (List ℕ)) (t : Bool) (w : Walk) → cond t (onward w keys) (done (Walk.Fault (fault number at))) ≡ done (Walk.End end) → Past s at end
-        keyed-done number keys true (Walk.End k) e = let z : _≡_ {A = ℕ} 0 1 = cc in absurd (omega arith)
-        keyed-done number keys true (Walk.Fault f) e = let z : _≡_ {A = ℕ} 0 1 = cc in absurd (omega arith)
-        keyed-done number keys false w e = let z : _≡_ {A = ℕ} 0 1 = cc in absurd (omega arith)
+        keyed-done : (f : Fault) (keys : List (List ℕ)) (t : Bool) (w : Walk) → cond t (onward w keys) (done (Walk.Fault f)) ≡ done (Walk.End end) → Past s at end
+        keyed-done f keys true (Walk.End k) e = let z : _≡_ {A = ℕ} 0 1 = cc in absurd (omega arith)
+        keyed-done f keys true (Walk.Fault g) e = let z : _≡_ {A = ℕ} 0 1 = cc in absurd (omega arith)
+        keyed-done f keys false w e = let z : _≡_ {A = ℕ} 0 1 = cc in absurd (omega arith)
 
         go : (t : Bool) → eqb (byteAt s at) 101 ≡ t → (w : Text) → cond t (done (Walk.End (at + 1))) (entryStep p value s at x w) ≡ done (Walk.End end) → Past s at end
         go true q w e = letter-e s at end (eqb-true (byteAt s at) 101 q) (cc)
         go false q (Text.Fault f) e = let z : _≡_ {A = ℕ} 0 1 = cc in absurd (omega arith)
-        go false q (Text.Bytes start k) e = keyed-done (keyFault p x (part s start k)) (part s start k ∷ x) (eqb (keyFault p x (part s start k)) 0) (value k) e
+        go false q (Text.Bytes start k) e = keyed-done _ (part s start k ∷ x) (eqb (keyFault p x (part s start k)) 0) (value k) e
 
     dictionary-ends : (keys : List (List ℕ)) → Ends s (λ at. dictionaryFrom p value s at keys)
     unfolding dictionaryFrom
@@ -111,8 +111,8 @@ module _ (s : List ℕ) (value : ℕ → Walk) (ends : Ends s value) where
       any-dictionary-no-key f e = rw (dictionary-step at keys, ne-eqb (byteAt s at) 101 b, e) refl
 
       module _ (start end : ℕ) (key : stringAt s at ≡ Text.Bytes start end) where
-        pub any-dictionary-refused : (number : ℕ) → number ≡ keyFault p keys (part s start end) → (number ≡ 0 → ⊥) → Walk.Fault (fault number at) ≡ dictionaryFrom p value s at keys
-        any-dictionary-refused number k h = rw (dictionary-step at keys, ne-eqb (byteAt s at) 101 b, key, ← k, ne-eqb number 0 h) refl
+        pub any-dictionary-refused : (code : ℕ) → code ≡ keyFault p keys (part s start end) → (code ≡ 0 → ⊥) → Walk.Fault (fault code at) ≡ dictionaryFrom p value s at keys
+        any-dictionary-refused code k h = rw (dictionary-step at keys, ne-eqb (byteAt s at) 101 b, key, ← k, ne-eqb code 0 h) refl
 
         pub any-dictionary-fault : (f : Fault) → keyFault p keys (part s start end) ≡ 0 → value end ≡ Walk.Fault f → Walk.Fault f ≡ dictionaryFrom p value s at keys
         any-dictionary-fault f k e = rw (dictionary-step at keys, ne-eqb (byteAt s at) 101 b, key, k, e) refl
@@ -179,8 +179,8 @@ module _ (p : Profile) (levels : ℕ) (s : List ℕ) (at : ℕ) where
       dictionary-no-key f e = any-dictionary-no-key s (valueAt p levels s) (value-ends p levels s) p at keys b f e
 
       module _ (start end : ℕ) (text : stringAt s at ≡ Text.Bytes start end) where
-        pub dictionary-refused : (number : ℕ) → (keyFault p keys (part s start end) ≡ number) × (number ≡ 0 → ⊥) → Walk.Fault (fault number at) ≡ dictionaryFrom p (valueAt p levels s) s at keys
-        dictionary-refused number k = any-dictionary-refused s (valueAt p levels s) (value-ends p levels s) p at keys b start end text number (sym (k .0)) (k .1)
+        pub dictionary-refused : (code : ℕ) → (keyFault p keys (part s start end) ≡ code) × (code ≡ 0 → ⊥) → Walk.Fault (fault code at) ≡ dictionaryFrom p (valueAt p levels s) s at keys
+        dictionary-refused code k = any-dictionary-refused s (valueAt p levels s) (value-ends p levels s) p at keys b start end text code (sym (k .0)) (k .1)
 
         module _ (k : keyFault p keys (part s start end) ≡ 0) where
           pub dictionary-fault : (f : Fault) → valueAt p levels s end ≡ Walk.Fault f → Walk.Fault f ≡ dictionaryFrom p (valueAt p levels s) s at keys

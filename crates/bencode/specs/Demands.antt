@@ -8,6 +8,7 @@ use lib.IntN.{ℤ}
 use lib.Signed.{mag}
 use lib.ListN.{length}
 use Rattle.bencode.specs.declared.entry.Entry.{Entry}
+use Rattle.bencode.specs.declared.fault.Fault.{Fault}
 use Rattle.bencode.specs.declared.fault.Walk.{Walk}
 use Rattle.bencode.specs.declared.integer.Number.{Number}
 use Rattle.bencode.specs.declared.item.Item.{Item}
@@ -56,13 +57,18 @@ SkipsEntries = (p : Profile) (levels : ℕ) (es : Entries) (keys : List (List �
 abbrev pub FindsItem : Type 0
 FindsItem = (p : Profile) (levels : ℕ) (v : Value) (s : List ℕ) (at end : ℕ) → WellFormed p levels v → Begins s at (encode v) end → itemAt s at ≡ Item.Value end
 
--- what a search answers for the value of a key: an offset where that value's encoding stands, or that there is none
-abbrev pub Located : List ℕ → Found → Entry → Type 0
-Located s (found v) (Entry.At at) = Begins s at (encode v) (at + length (encode v))
-Located s (found v) Entry.Missing = ⊥
-Located s missing (Entry.At at) = ⊥
-Located s missing Entry.Missing = Unit {0}
+-- what a search answers for the value of a key, in a dictionary that ends at `end`: an offset where that value's encoding
+-- stands, with the rest of the dictionary after it; or that there is none
+abbrev pub Located : Profile → ℕ → List ℕ → ℕ → Found → Entry → Type 0
+Located p levels s end (found v) (Entry.At at) = WellFormed p levels v × Begins s at (encode v) (at + length (encode v)) × (skipRest s (at + length (encode v)) ≡ end)
+Located p levels s end (found v) Entry.Missing = ⊥
+Located p levels s end missing (Entry.At at) = ⊥
+Located p levels s end missing Entry.Missing = Unit {0}
 
 -- a key is found in a dictionary exactly where its value stands
 abbrev pub FindsEntry : Type 0
-FindsEntry = (p : Profile) (levels : ℕ) (es : Entries) (keys : List (List ℕ)) (s : List ℕ) (at end : ℕ) (key : List ℕ) → AllEntries p (WellFormed p levels) keys es → Begins s at (encodeEntries es ++ (101 ∷ [])) end → Located s (lookup key es) (entryAt s key at)
+FindsEntry = (p : Profile) (levels : ℕ) (es : Entries) (keys : List (List ℕ)) (s : List ℕ) (at end : ℕ) (key : List ℕ) → AllEntries p (WellFormed p levels) keys es → Begins s at (encodeEntries es ++ (101 ∷ [])) end → Located p levels s end (lookup key es) (entryAt s key at)
+
+-- no fault has the code 0, which is that of what is accepted
+abbrev pub FaultsCoded : Type 0
+FaultsCoded = (p : Profile) (s : List ℕ) (f : Fault) → payloadAt p s ≡ Walk.Fault f → f .code ≡ 0 → ⊥

@@ -25,7 +25,7 @@ returns-2 : tie.Need-returns-2
 returns-2 c =
     let a = c .before .before .before .before .before .args in
     let n = c .before .before .before .numeral in
-    integer-no-end (a .s .now) (a .at) (a .from) (a .negative) (n .result) (n .ensures) (c .before .before .if1 .left) (λ e. c .if2 .taken (c .before .byte-at .ensures ∙ e))
+    integer-no-end (a .s .now) (a .at) (a .from) (a .negative) (n .result) (n .ensures) (c .before .before .if1 .left) (λ e. omega (arith, c .before .byte-at .ensures))
 
 add-in-range : tie.Need-add-in-range
 add-in-range c =

@@ -1,0 +1,137 @@
+//! Compares the proved walker with the one in ordinary Rust: the same code and offset for each payload.
+
+use crate::random::{self, Random};
+use crate::{proved, walker};
+
+const RANDOM_PAYLOADS: usize = 3_000_000;
+
+/// The alphabet of the short payloads, all of which are tried, and their greatest length.
+const ALPHABET: &[u8] = b"012-:ildea";
+const SHORT: usize = 6;
+
+/// The codes that a walker can give.
+const CODES: [usize; 7] = [0, 5, 6, 7, 8, 9, 11];
+
+/// Payloads with the answer that the rules give in the loose profile.
+const SAMPLES: &[(&str, u8, usize)] = &[
+    ("", 5, 0),
+    ("i7e", 0, 3),
+    ("i-0e", 5, 2),
+    ("i03e", 5, 2),
+    ("i-e", 5, 2),
+    ("ie", 5, 1),
+    ("i9223372036854775807e", 0, 21),
+    ("i9223372036854775808e", 6, 0),
+    ("i-9223372036854775808e", 0, 22),
+    ("li-9223372036854775809ee", 6, 1),
+    ("i9223372036854775808", 5, 20),
+    ("00:", 5, 1),
+    ("4:abc", 5, 5),
+    ("18446744073709551616:", 5, 21),
+    ("18446744073709551616x", 5, 20),
+    ("d1:ai1e1:ai2ee", 8, 7),
+    ("d1:b0:1:a0:1:b", 8, 11),
+    ("di1ei1ee", 5, 1),
+    ("d1:ae", 5, 4),
+    ("d7:versiond3:mini1e3:maxi2eee", 0, 29),
+    ("l5:startli8eei15", 5, 16),
+    ("l5:startli8eei15ee", 0, 18),
+    ("i7ee", 9, 3),
+    ("lllllllllllllllleeeeeeeeeeeeeeee", 0, 32),
+    ("lllllllllllllllll", 7, 16),
+];
+
+/// The same for the strict profile.
+const STRICT_SAMPLES: &[(&str, u8, usize)] = &[
+    ("d1:a0:1:b0:2:ba0:e", 0, 18),
+    ("d1:b0:1:a0:e", 11, 6),
+    ("d1:b0:0:0:e", 11, 6),
+    ("d1:ade1:ade1:ade", 8, 6),
+    ("d1:a0:1:b0:1:a0:e", 8, 11),
+    ("ld1:b0:1:a", 11, 7),
+    ("ld1:b0:1:", 5, 9),
+];
+
+struct Tally {
+    payloads: u64,
+    answers: [u64; 12],
+}
+
+impl Tally {
+    /// Both profiles of one payload; the first difference ends the program.
+    fn check(&mut self, payload: &[u8]) {
+        self.payloads += 1;
+        for strict in [false, true] {
+            let (found, wanted) = (proved(payload, strict), walker::walk(payload, strict));
+            if found != wanted {
+                println!(
+                    "difference, strict {strict}: proved {found:?}, Rust {wanted:?}, payload {}",
+                    hex(payload)
+                );
+                std::process::exit(1);
+            }
+            self.answers[usize::from(found.0)] += 1;
+        }
+    }
+}
+
+pub fn run() {
+    let mut tally = Tally {
+        payloads: 0,
+        answers: [0; 12],
+    };
+    samples(&mut tally);
+    short(&mut tally, &mut Vec::new());
+    levels(&mut tally);
+    let mut random = Random(88_172_645_463_325_252);
+    let mut payload = Vec::new();
+    for _ in 0..RANDOM_PAYLOADS {
+        random::payload(&mut random, &mut payload);
+        tally.check(&payload);
+    }
+    println!("{} payloads in two profiles: no difference", tally.payloads);
+    for code in CODES {
+        println!("code {code:2}: {} answers", tally.answers[code]);
+        assert!(tally.answers[code] > 1000, "code {code} is hardly tried");
+    }
+}
+
+/// The samples have the answers of the rules, from both walkers.
+fn samples(tally: &mut Tally) {
+    for (table, strict) in [(SAMPLES, false), (STRICT_SAMPLES, true)] {
+        for (text, code, offset) in table {
+            let found = walker::walk(text.as_bytes(), strict);
+            assert_eq!(found, (*code, *offset), "sample {text}, strict {strict}");
+            tally.check(text.as_bytes());
+        }
+    }
+}
+
+/// Each payload of the alphabet up to the greatest length.
+fn short(tally: &mut Tally, payload: &mut Vec<u8>) {
+    tally.check(payload);
+    if payload.len() == SHORT {
+        return;
+    }
+    for &byte in ALPHABET {
+        payload.push(byte);
+        short(tally, payload);
+        payload.pop();
+    }
+}
+
+/// Up to 40 levels, each cut at every length.
+fn levels(tally: &mut Tally) {
+    for depth in 0..40 {
+        for open in ["l", "d0:", "ld1:a", "d1:bi0e1:a", "d1:aleli0e1:b"] {
+            let payload = [open.repeat(depth), "le".to_string(), "e".repeat(2 * depth)]
+                .concat()
+                .into_bytes();
+            (0..=payload.len()).for_each(|length| tally.check(&payload[..length]));
+        }
+    }
+}
+
+fn hex(payload: &[u8]) -> String {
+    payload.iter().map(|byte| format!("{byte:02x}")).collect()
+}

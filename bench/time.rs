@@ -1,0 +1,100 @@
+//! Times both walkers on the same payloads, in the loose profile.
+
+use std::hint::black_box;
+use std::time::{Duration, Instant};
+
+use crate::{payload_code, proved, shapes, walker};
+
+/// A sample is at least so long, by repeating the call, so that the clock's step does not count.
+const SAMPLE: Duration = Duration::from_micros(50);
+
+/// How long one payload is measured, and how many samples are taken at least and at most.
+const BUDGET: Duration = Duration::from_millis(600);
+const SAMPLES: std::ops::RangeInclusive<usize> = 21..=1001;
+
+type Shape = fn(usize) -> Vec<u8>;
+
+const SHAPES: [(&str, Shape); 5] = [
+    ("list of integers", shapes::integers),
+    ("list of strings", shapes::strings),
+    ("info list, keys sorted", shapes::info),
+    ("info list, keys unsorted", shapes::info_unsorted),
+    ("dictionary, keys rising", shapes::rising),
+];
+
+pub fn run() {
+    println!(
+        "{:36} {:>6} {:>11} {:>11} {:>9}",
+        "payload", "bytes", "proved us", "Rust us", "ratio"
+    );
+    for (name, shape) in SHAPES {
+        for kib in [1, 4, 16, 32] {
+            line(name, &shape(kib * 1024));
+        }
+    }
+    for (name, payload) in shapes::worst(32 * 1024) {
+        line(name, &payload);
+    }
+}
+
+fn line(name: &str, payload: &[u8]) {
+    assert_eq!(
+        proved(payload, false),
+        (0, payload.len()),
+        "{name} is not accepted"
+    );
+    assert_eq!(
+        walker::walk(payload, false),
+        (0, payload.len()),
+        "{name} is not accepted"
+    );
+    let (proved, rust) = measure(payload);
+    let ratio = proved / rust;
+    println!(
+        "{name:36} {:6} {proved:11.2} {rust:11.2} {ratio:9.2}",
+        payload.len()
+    );
+}
+
+/// The medians of both in microseconds; the samples of the two alternate.
+fn measure(payload: &[u8]) -> (f64, f64) {
+    let mut proved = || {
+        let bytes = black_box(payload);
+        // SAFETY: the pointer and the length are those of one slice.
+        black_box(unsafe { payload_code(bytes.as_ptr(), bytes.len(), black_box(false)) });
+    };
+    let mut rust = || {
+        black_box(walker::walk(black_box(payload), black_box(false)));
+    };
+    let (proved_calls, rust_calls) = (calls(&mut proved), calls(&mut rust));
+    let (mut proved_times, mut rust_times) = (Vec::new(), Vec::new());
+    let start = Instant::now();
+    while proved_times.len() < *SAMPLES.start()
+        || (start.elapsed() < BUDGET && proved_times.len() < *SAMPLES.end())
+    {
+        proved_times.push(sample(proved_calls, &mut proved));
+        rust_times.push(sample(rust_calls, &mut rust));
+    }
+    (median(proved_times), median(rust_times))
+}
+
+/// How many calls make a sample long enough.
+fn calls(call: &mut impl FnMut()) -> u32 {
+    let mut calls = 1;
+    while sample(calls, call) * f64::from(calls) < SAMPLE.as_secs_f64() * 1e6 {
+        calls *= 2;
+    }
+    calls
+}
+
+/// Microseconds for one call.
+fn sample(calls: u32, call: &mut impl FnMut()) -> f64 {
+    let start = Instant::now();
+    (0..calls).for_each(|_| call());
+    start.elapsed().as_secs_f64() * 1e6 / f64::from(calls)
+}
+
+fn median(mut times: Vec<f64>) -> f64 {
+    times.sort_by(f64::total_cmp);
+    times[times.len() / 2]
+}

@@ -1,0 +1,31 @@
+-- `bench_abi::payload_code` meets its contract.
+-- Assumes nothing.
+use mathlib.Core.Path.{sym, ap, _∙_}
+use Rattle.bencode.specs.declared.profile.Profile.{Profile}
+use Rattle.bencode.specs.Walk.{payloadAt}
+use Rattle.bench_abi.specs.Walked.{codeOf}
+use borrow.Author.Needs.{needs}
+use Rattle.bench_abi.proofs.payload_code.Statement.{statement}
+use Rattle.bench_abi.proofs.payload_code.Tie as tie
+
+profile-requires : tie.Need-profile-requires
+profile-requires c κs = search needs
+
+payload-requires : tie.Need-payload-requires
+payload-requires c κs = search needs
+
+enum-told : tie.Need-enum-told
+enum-told c = search needs
+
+enum-known-f : tie.Need-enum-known-f
+enum-known-f c = search needs
+
+returns : tie.Need-returns
+returns c = ap codeOf (sym (c .enum-told .given .1) ∙ c .before .before .payload .ensures ∙ ap (λ (p : Profile). payloadAt p (c .before .before .before .before .before .args .s .now)) (c .before .before .before .profile .ensures))
+
+returns-2 : tie.Need-returns-2
+returns-2 c = ap codeOf (sym (c .before .f .given .1) ∙ c .before .before .before .payload .ensures ∙ ap (λ (p : Profile). payloadAt p (c .before .before .before .before .before .before .args .s .now)) (c .before .before .before .before .profile .ensures))
+
+pub payload-code-spec : {M : Type 1} → statement M
+payload-code-spec =
+    tie.close (tie.spec profile-requires payload-requires enum-told enum-known-f returns returns-2)

@@ -1,0 +1,78 @@
+// Walks the payloads of a stream of cases and prints a line for each: 0 and the payload's length, or the fault's code
+// and offset. Operation `l` walks in the loose profile, `s` in the strict one.
+use bencode::fault::Walk;
+use bencode::profile::Profile;
+use cases::Case;
+use cases::print;
+use cases::print_number;
+
+fn print_line(code: u8, offset: usize) {
+    print_number(code as usize);
+    print(b" ");
+    print_number(offset);
+    print(b"\n");
+}
+
+fn answer(payload: &[u8], profile: Profile) {
+    match bencode::walk::payload(payload, profile) {
+        Walk::End(end) => print_line(0, end),
+        Walk::Fault(f) => print_line(f.code, f.offset),
+    }
+}
+
+// Answers a case, or says that its operation is none.
+fn answer_case(operation: u8, payload: &[u8]) -> bool {
+    if operation == b'l' {
+        answer(payload, Profile::Loose);
+        return true;
+    }
+    if operation == b's' {
+        answer(payload, Profile::Strict);
+        return true;
+    }
+    false
+}
+
+// What comes of a case.
+enum Outcome {
+    Answered,
+    Faulty,
+    Ended,
+}
+
+fn run_case(head: &mut [u8; 5], body: &mut [u8]) -> Outcome {
+    match cases::next_case(head, body) {
+        Case::Body { operation, length } => {
+            if body.len() < length {
+                return Outcome::Faulty;
+            }
+            if answer_case(operation, &body[..length]) {
+                return Outcome::Answered;
+            }
+            Outcome::Faulty
+        }
+        Case::Cut => Outcome::Faulty,
+        Case::End => Outcome::Ended,
+    }
+}
+
+fn main() {
+    let mut head = [0u8; 5];
+    let mut space = [0u8; 131072];
+    let body: &mut [u8] = &mut space;
+    let mut answered: u32 = 0;
+    while answered < 4000000000 {
+        match run_case(&mut head, body) {
+            Outcome::Answered => {
+                answered += 1;
+            }
+            Outcome::Faulty => {
+                print(b"case fault\n");
+                return;
+            }
+            Outcome::Ended => {
+                return;
+            }
+        }
+    }
+}

@@ -1,0 +1,538 @@
+"""Writes crates/payload_cases/stdin and stdout: cases and expected lines.
+
+A case is one byte of operation (l loose, s strict profile), a length in 4
+bytes, little-endian, and so many bytes of payload. Its line is the code and
+the offset that payload_oracle.walk gives. The last case is cut short.
+
+Run from the repository's top: python3 tools/payload_cases.py
+The files are the same on every run: all choices come from a fixed seed.
+"""
+
+import itertools
+import pathlib
+import struct
+import sys
+
+sys.dont_write_bytecode = True
+from payload_oracle import walk  # noqa: E402
+
+FOLDER = pathlib.Path(__file__).resolve().parent.parent / "crates/payload_cases"
+MAX_BODY = 131072
+SIZE_LIMIT = 1500000
+
+
+class Chance:
+    """A xorshift generator, so that no Python version changes the files."""
+
+    def __init__(self, seed):
+        self.state = seed
+
+    def below(self, n):
+        x = self.state
+        x ^= x << 13 & 2**64 - 1
+        x ^= x >> 7
+        x ^= x << 17 & 2**64 - 1
+        self.state = x
+        return x % n
+
+    def pick(self, items):
+        return items[self.below(len(items))]
+
+    def shuffled(self, items):
+        left = list(items)
+        return [left.pop(self.below(len(left))) for _ in items]
+
+
+# Encoders. They write what they are told, in that order, sound or not.
+
+def integer(n):
+    return b"i%de" % n
+
+
+def string(text):
+    return b"%d:%s" % (len(text), text)
+
+
+def listing(*values):
+    return b"l" + b"".join(values) + b"e"
+
+
+def dictionary(*pairs):
+    return b"d" + b"".join(string(k) + v for k, v in pairs) + b"e"
+
+
+# Named payloads.
+
+SCOPE = [
+    b"", b"d7:versiond3:mini1e3:maxi2eee", b"l5:startli8eei15ee", b"i-0e",
+    b"l5:startli8eei15ee"[:16], b"i7e", b"i9223372036854775808e",
+    b"d1:ai1e1:ai2ee", b"l4:porti65536ee", b"l4:porti65535ee",
+    b"l" * 16 + b"e" * 16, b"l" * 17 + b"e" * 17,
+    b"l9:downlimiti-1ee", b"l7:uplimiti-1ee", b"l4:stopli3eee",
+    b"l5:startli8eee", b"l9:downlimiti200ee", b"l7:uplimiti50ee",
+    b"00000012l5:startli8eei15ee",
+]
+
+# Frames of the IPC text as they stand: length, payload, corrected payload.
+FRAMES = [
+    (0x0E, b"d4:porti51413ee", None),
+    (0x1E, b"l12:get-info-alll4:hashee", None),
+    (0x21, b"l12:get-info-alll4:hashei5ee", None),
+    (0x1D, b"d7:versiond3:mini1e3:maxi2eee", None),
+    (0x10, b"l5:startli8eei15ee", None),
+    (0x11, b"l8:succeeded0:i15ee", b"l9:succeeded0:i15ee"),
+    (0x1D, b"d7:versiond3:mini1e3:maxi1eee", None),
+    (0x0B, b"d4:quit0:e", None),
+    (0x0E, b"l8:stop-all5:fnorde", None),
+    (0x17, b"l9:downlimiti100ei47el", b"l9:downlimiti100ei47ee"),
+    (0x17, b"l9:uplimiti20ei48ee", b"l7:uplimiti20ei48ee"),
+    (0x14, b"l8:succeeded0:i47ee", b"l9:succeeded0:i47ee"),
+    (0x14, b"l8:succeeded0:i48ee", b"l9:succeeded0:i48ee"),
+    (0x15, b"l13:get-downlimiti0ee", None),
+    (0x13, b"l13:get-uplimiti0ee", b"l11:get-uplimiti0ee"),
+    (0x0F, b"l9:uplimiti20ee", b"l7:uplimiti20ee"),
+    (0x12, b"l9:downlimiti100ee", None),
+]
+
+# Key and value examples of the IPC text, here put into a list.
+EXAMPLES = [
+    b"8:addfilesl21:/torrents/foo.torrent20:/home/me/bar.torrente",
+    b"16:addfile-detailedd4:file19:/tor/wooble.torrente",
+    b"7:automapi1e", b"9:autostarti0e", b"10:bad-format0:",
+    b"9:directory21:/home/roger/downloads", b"9:downlimiti100e",
+    b"6:failed17:permission denied", b"11:get-automap0:",
+    b"13:get-autostart0:", b"13:get-directory0:", b"13:get-downlimit0:",
+    b"8:get-infod2:idli4ei7ei2ee4:typel4:hash4:nameee",
+    b"12:get-info-alll4:hash4:namee", b"7:get-pex0:", b"8:get-port0:",
+    b"10:get-statusd2:idli4ei7ei2ee4:typel5:state9:completedee",
+    b"14:get-status-alll5:state9:completede",
+    b"13:get-supportedl6:lookup8:get-port16:addfile-detailede",
+    b"11:get-uplimit0:",
+    b"6:lookupl40:0f16ea6965ee5133ea4dbb1e7f516e9fcf3d899ee",
+    b"4:infold2:idi3e4:name3:fooed2:idi9e4:name3:baree", b"4:noop0:",
+    b"13:not-supported0:", b"3:pexi0e", b"4:porti51413e", b"4:quit0:",
+    b"5:removeli3ei8ei6ee", b"6:removeli3ei8ei6ee", b"10:remove-all0:",
+    b"5:startli3ei8ei6ee", b"9:start-all0:",
+    b"4:infold2:idi3e5:state7:seedinged2:idi9e5:state6:pausedee",
+    b"4:stopli3ei8ei6ee", b"8:stop-all0:", b"8:succeeded0:",
+    b"9:succeeded0:", b"9:supportedl8:get-port6:lookupe", b"7:uplimiti20e",
+]
+
+# Short payloads of all shapes; sound in the loose profile.
+SOUND = [
+    b"i0e", b"i7e", b"i-1e", b"i10e", b"i-90e", b"i9223372036854775807e",
+    b"i-9223372036854775808e", b"0:", b"1:a", b"3:abc", b"1:\x00",
+    b"2:\xff\x80", b"4:i1ee", b"2:1:", b"10:0123456789", b"3:lde",
+    b"le", b"de", b"llee", b"ldee", b"llelee", b"lllleeee", b"l0:e",
+    b"l0:0:e", b"l1:ae", b"l2:\x00\xffe", b"li0ee", b"li-1ei1ee",
+    b"li5e1:aledee", b"l2:ei1:ee", b"lli1eeli2eee", b"lde0:i0ee",
+    b"ldedee", b"l4:noop0:e", b"l3:pexi0ei9ee", b"l4:stopli3ei8eee",
+    b"d0:0:e", b"d0:i0ee", b"d0:lee", b"d0:dee", b"d1:ai1ee", b"d1:a0:e",
+    b"d1:alee", b"d1:adee", b"d1:a1:ae", b"d2:\x00\xffi-1ee",
+    b"d1:ai1e1:bi2ee", b"d1:bi1e1:ai2ee", b"d0:i0e1:ai1ee",
+    b"d1:ai0e0:i1ee", b"d1:a0:2:aa0:e", b"d2:aa0:1:a0:e", b"d1:b0:2:aa0:e",
+    b"d1:\x7f0:1:\x800:e", b"d1:\x800:1:\x000:e", b"d1:ad1:a0:ee",
+    b"d1:ad1:bdee1:bdee", b"d1:ali1ee1:c0:e", b"ld1:aleed1:aleee",
+    b"d1:eld1:e0:eee", b"d1:a0:1:b0:1:c0:e", b"d1:b0:1:a0:1:c0:e",
+    b"ld1:bi0e1:adeee", b"d3:mini1e3:maxi2ee", b"d7:versioni2ee",
+]
+
+REPLACEMENTS = [bytes([b]) for b in b"019-:deilx\x00\xff"]
+
+
+def named():
+    yield from SCOPE
+    for length, payload, corrected in FRAMES:
+        yield payload
+        yield payload[:length]
+        if corrected:
+            yield corrected
+            yield corrected[:length]
+    for example in EXAMPLES:
+        yield listing(example)
+        yield example
+
+
+def single_faults(chance):
+    """Each sound payload with one cut, one byte changed, added or lost."""
+    for payload in SOUND:
+        yield payload
+        for at in range(len(payload)):
+            yield payload[:at]
+            yield payload[:at] + payload[at + 1:]
+            for byte in REPLACEMENTS:
+                yield payload[:at] + byte + payload[at + 1:]
+        for at in range(len(payload) + 1):
+            yield payload[:at] + chance.pick(REPLACEMENTS) + payload[at:]
+
+
+# Levels.
+
+def nested(kinds, core):
+    """core inside a list for each l of kinds and a dictionary for each d."""
+    for kind in reversed(kinds):
+        core = listing(core) if kind == "l" else dictionary((b"k", core))
+    return core
+
+
+CORES = [
+    b"", b"le", b"de", b"l", b"d", b"i1e", b"3:abc", b"0:", b"x", b"e", b"i1",
+    b"i99999999999999999999e", b"d1:ai1e1:bi2ee", b"d1:bi1e1:ai2ee",
+    b"d1:ai1e1:ai2ee", b"d1:alee", b"d1:al", b"dle", b"dde", b"di1e0:e",
+    b"lle", b"ldee", b"li1elee", b"ledeli1ee",
+]
+
+
+def levels(chance):
+    for depth in (1, 2, 3, 14, 15, 16, 17, 18, 20, 40):
+        for kinds in ("l" * depth, "d" * depth, ("ld" * depth)[:depth],
+                      ("dl" * depth)[:depth],
+                      "".join(chance.pick("ld") for _ in range(depth))):
+            for core in CORES:
+                if depth in (15, 16) or core in (b"", b"le", b"de"):
+                    yield nested(kinds, core)
+    for depth in (16, 17):
+        for kinds in ("l" * depth, "d" * depth, ("dl" * depth)[:depth]):
+            whole = nested(kinds[:-1], b"le" if kinds[-1] == "l" else b"de")
+            for cut in range(len(whole) - depth - 6, len(whole) + 1):
+                yield whole[:cut]
+            for byte in REPLACEMENTS:
+                at = whole.index(b"e")
+                yield whole[:at - 1] + byte + whole[at:]
+
+
+def branches():
+    """Deep branches one after the other, and depth against other faults."""
+    for first, second in itertools.product((1, 14, 15, 16), repeat=2):
+        for one, two in itertools.product("ld", repeat=2):
+            a = nested(one * first, b"0:")
+            b = nested(two * second, b"0:")
+            yield listing(a, b)
+            yield dictionary((b"a", a), (b"b", b))
+            yield dictionary((b"b", a), (b"a", b))
+            yield dictionary((b"a", a), (b"a", b))
+            yield a + b
+    deep = nested("l" * 16, b"")
+    yield listing(*[nested("l" * 15, b"")] * 20)
+    yield listing(*[nested("l" * 15, b"")] * 20 + [deep])
+    yield listing(deep, b"x")
+    yield listing(b"x", deep)
+    yield listing(b"i99999999999999999999e", deep)
+    yield listing(deep, b"i99999999999999999999e")
+    stairs = b""
+    for _ in range(16):
+        stairs = listing(b"i1e", stairs, b"le") if stairs else b"le"
+    yield stairs
+    yield listing(stairs)
+
+
+# Numbers.
+
+LENGTHS = [
+    2**31 - 1, 2**31, 2**32 - 1, 2**32, 2**32 + 5, 2**53 + 5, 2**63 - 1, 2**63,
+    2**63 + 5, 2**64 - 1, 2**64, 2**64 + 1, 2**64 + 5, 2**65 + 5,
+    10 * 2**64 + 5, 2**128 + 5, 10**18, 10**19, 10**20, 10**39, 10**40,
+    10**40 - 1, 10**60,
+]
+
+
+def lengths():
+    for n in LENGTHS:
+        for tail in (b"", b":", b":abcde", b":abcdee", b"x", b"e", b"-", b"i"):
+            text = b"%d%s" % (n, tail)
+            yield text
+            yield b"l" + text
+            yield b"d" + text
+            yield b"d1:a" + text
+    for k in range(1, 40):
+        yield b"%d:abcde" % (2**64 - k)
+        yield b"l0:%d:abcdee" % (2**64 - k)
+    for n in range(5):
+        for size in range(5):
+            for shape in (b"%d:%s", b"l%d:%se", b"d%d:%s0:e", b"d0:%d:%se"):
+                yield shape % (n, b"eeee"[:size])
+    for text in (b"00", b"00:", b"01:a", b"05:abcde", b"00005:abcde", b"0",
+                 b"0x", b"0e", b"0:", b"0-", b"00000000000000000000000:",
+                 b"1", b"10", b"1:", b"-0:", b"-1:a", b"+1:a", b" 1:a", b":a",
+                 b"1 :a", b"1;a", b"1/a", b"/:a", b"1::", b"12:abcdefghijkl",
+                 b"9" * 1000, b"9" * 1000 + b":", b"1" + b"0" * 5000 + b"x"):
+        yield text
+        yield listing(text)
+        yield dictionary((b"a", text))
+        yield b"d" + text + b"i1ee"
+
+
+NUMBERS = sorted(
+    {s * (2**k + d) for k in (31, 32, 63, 64, 65, 128) for d in (-1, 0, 1, 7)
+     for s in (1, -1)}
+    | {s * (10**k + d) for k in (17, 18, 19, 20, 39, 40) for d in (-1, 0)
+       for s in (1, -1)}
+    | {s * (9223372036854775800 + d) for d in range(-5, 15) for s in (1, -1)}
+    | {0, 1, -1, 9, 10, -9, -10, 65535, 2**64 + 2**63, 10 * 2**64 + 7,
+       922337203685477581, -922337203685477581, 9300000000000000000})
+
+
+def integers():
+    for n in NUMBERS:
+        whole = integer(n)
+        yield whole
+        yield whole[:-1]
+        yield whole[:-1] + b"x"
+        yield whole[:-1] + b"-e"
+        yield whole + b"e"
+        yield listing(b"i1e", whole)
+        yield dictionary((b"a", whole), (b"b", whole))
+    for text in (b"i", b"ie", b"i-", b"i-e", b"i-0", b"i-0e", b"i-00e", b"i0",
+                 b"i00e", b"i01e", b"i03e", b"i-01e", b"i--1e", b"i+1e",
+                 b"i 1e", b"i1 e", b"i1-e", b"i1-2e", b"i1.e", b"i1:e", b"i:e",
+                 b"i/e", b"i1/e", b"ixe", b"i0xe", b"i0-e", b"i-xe", b"I1e",
+                 b"i1E", b"i" + b"0" * 40 + b"e", b"i" + b"7" * 40 + b"e",
+                 b"i-" + b"7" * 40 + b"e", b"i" + b"1" * 5000 + b"e",
+                 b"i-" + b"1" * 5000 + b"x"):
+        yield text
+        yield listing(text)
+        yield listing(b"0:", text, b"i99999999999999999999e")
+        yield dictionary((b"a", text))
+        yield b"d" + text + b"0:e"
+
+
+def range_order():
+    """6 in many places, and 6 against faults before and after it."""
+    for n in (2**63, -2**63 - 1, 2**64 + 7, 10**40):
+        bad = integer(n)
+        for kinds in ("l", "d", "ld", "dl", "lll", "ddd", "l" * 16, "d" * 16):
+            yield nested(kinds, bad)
+            yield nested(kinds, b"i1e" + bad)
+        yield listing(b"x", bad)
+        yield listing(bad, b"x")
+        yield listing(bad, bad)
+        yield b"l" + bad
+        yield bad + bad
+        yield b"d" + bad + b"0:e"
+        yield dictionary((b"a", b"0:"), (b"a", bad))
+        yield dictionary((b"a", bad), (b"a", b"0:"))
+        yield dictionary((b"b", b"0:"), (b"a", bad))
+        yield dictionary((b"b", bad), (b"a", b"0:"))
+
+
+# Keys.
+
+KEY_SETS = [
+    [b"a", b"b", b"c", b"d"],
+    [b"", b"a", b"aa", b"ab"],
+    [b"\x00", b"\x00\x00", b"\x7f", b"\x80"],
+    [b"\x00\x01", b"\x01", b"\xfe\xff", b"\xff"],
+    [b"abcdefghij", b"b", b"B", b"9"],
+]
+VALUES = [b"i0e", b"0:", b"le", b"de"]
+
+
+def key_orders():
+    """All orders of 4 keys, plain and with each key again at each place."""
+    for keys in KEY_SETS:
+        for order in itertools.permutations(keys):
+            rows = [list(order)]
+            for i in range(4):
+                for j in range(i + 1, 5):
+                    rows.append(list(order[:j]) + [order[i]] + list(order[j:]))
+            for row in rows:
+                yield dictionary(*zip(row, itertools.cycle(VALUES)))
+
+
+FAULTY = [b"", b"x", b"e", b"i", b"ie", b"i-0e", b"i99999999999999999999e",
+          b"5:ab", b"05:abcde", b"l", b"lx", b"d", b"dx", b"d1:a0:1:a0:e",
+          b"d1:b0:1:a0:e", b"l" * 17]
+
+
+def key_faults():
+    """Key faults against faults of values."""
+    for bad in FAULTY:
+        for pairs in (
+            [(b"a", b"0:"), (b"a", bad)],
+            [(b"a", bad), (b"a", b"0:")],
+            [(b"b", b"0:"), (b"a", bad)],
+            [(b"b", bad), (b"a", b"0:")],
+            [(b"a", b"0:"), (b"b", bad), (b"a", b"0:")],
+            [(b"a", b"0:"), (b"b", b"0:"), (b"a", bad)],
+            [(b"b", b"0:"), (b"a", b"0:"), (b"b", bad)],
+            [(b"", bad), (b"", bad)],
+            [(b"a", b"0:"), (b"b", b"0:"), (b"c", bad)],
+        ):
+            yield dictionary(*pairs)
+            yield listing(dictionary(*pairs), b"x")
+    for tail in (b"", b"1", b"1:", b"1:a", b"1:ae", b"1:ax", b"1:ai", b"1:ai1",
+                 b"01:a", b"1x", b"2:a", b"2:ab", b"0", b"0:", b"i1e", b"l"):
+        yield b"d1:a0:" + tail
+        yield b"d1:b0:" + tail
+        yield b"d0:0:1:a0:" + tail
+        yield b"ld1:a0:" + tail
+
+
+BETWEEN = [
+    b"i1e", b"0:", b"le", b"de", b"d1:a0:e", b"d1:b0:1:c0:e", b"ld1:a0:ee",
+    b"d1:ad1:ad1:aleeee", b"li1ei2ei3ee", b"6:d1:a0:", b"9:1:a0:1:a0",
+    string(b"1:a" * 100), string(bytes(range(256))), listing(*[b"de"] * 50),
+    listing(*[b"d1:ai1ee"] * 20), nested("d" * 14, b"0:"),
+]
+
+
+def key_scopes():
+    """Keys again after long values, at other levels and in siblings."""
+    for value in BETWEEN:
+        yield dictionary((b"a", value), (b"b", value), (b"c", value))
+        yield dictionary((b"a", value), (b"a", value))
+        yield dictionary((b"a", value), (b"b", value), (b"a", value))
+        yield dictionary((b"b", value), (b"c", value), (b"b", value))
+        yield dictionary((b"c", value), (b"b", value), (b"c", value))
+        yield dictionary((b"b", value), (b"a", value))
+        yield listing(dictionary((b"a", value)), dictionary((b"a", value)))
+        yield dictionary((b"k", dictionary((b"k", value))), (b"l", value))
+        yield dictionary((b"k", dictionary((b"l", value))), (b"l", value))
+        yield dictionary((b"k", dictionary((b"l", value))), (b"k", value))
+        yield dictionary((b"k", dictionary((b"z", b"0:"), (b"z", value))))
+        yield dictionary((b"k", dictionary((b"z", value))), (b"m", b"de"),
+                         (b"l", value))
+    for one, two in itertools.product(
+            (b"", b"a", b"aa", b"aaa", b"ab", b"b", b"\x00", b"a\x00",
+             b"a\x00a", b"a\x00b", b"a\xff", b"\x7f", b"\x80", b"\xff",
+             b"1:a", b"e", b"0:", b"x" * 20, b"x" * 19 + b"y"), repeat=2):
+        yield dictionary((one, b"0:"), (two, b"0:"))
+
+
+def many_keys(chance, count):
+    """Many keys rising, falling and shuffled; plain and with one again."""
+    rising = [b"%d" % n for n in range(100, 100 + count)]
+    for order in (rising, rising[::-1], chance.shuffled(rising)):
+        pairs = [(k, chance.pick(VALUES)) for k in order]
+        yield dictionary(*pairs)
+        for again in (0, count // 2, count - 1):
+            yield dictionary(*pairs, (order[again], b"x"))
+        yield dictionary(*pairs[:-5], pairs[7], *pairs[-5:])
+
+
+def trailing():
+    for value in (b"i0e", b"i-5e", b"i9223372036854775807e", b"0:", b"1:a",
+                  b"3:\x00\xff:", b"le", b"li1ee", b"de", b"d1:ai1ee",
+                  b"d1:bi1e1:ai1ee", b"llldeeee", b"l" * 16 + b"e" * 16):
+        for tail in (b"\x00", b"e", b"i", b"0", b"0:", b"le", b"d", b"\xff",
+                     b" ", b"\n", b"i1e", b":", b"-", b"x", b"l" * 17,
+                     b"d1:a0:1:a0:e", b"i99999999999999999999e"):
+            yield value + tail
+
+
+# Random payloads.
+
+def random_value(chance, room):
+    """A value that is sound in the loose profile; room bounds its size."""
+    kind = chance.below(7)
+    if kind < 2 or room < 2:
+        size = 10 ** chance.below(19)
+        return integer(chance.below(2 * size + 1) - size)
+    if kind < 4:
+        return string(random_text(chance, 5))
+    count = chance.below(min(room, 4) + 1)
+    inner = [random_value(chance, room // 2 + 1) for _ in range(count)]
+    if kind == 4:
+        return listing(*inner)
+    keys = list(dict.fromkeys(random_text(chance, 3) for _ in range(count)))
+    return dictionary(*zip(sorted(keys) if chance.below(4) else keys, inner))
+
+
+def random_text(chance, longest):
+    letters = b"ab" if chance.below(3) else b"\x00\x7f\x80\xffei0:"
+    return bytes(chance.pick(letters)
+                 for _ in range(chance.below(longest + 1)))
+
+
+def mutated(chance, payload):
+    at = chance.below(len(payload))
+    to = at + 1 + chance.below(min(6, len(payload) - at))
+    byte = (chance.pick(REPLACEMENTS) if chance.below(4)
+            else bytes([chance.below(256)]))
+    return chance.pick([
+        payload[:at] + byte + payload[at + 1:],
+        payload[:at] + byte + payload[at:],
+        payload[:at] + payload[at + 1:],
+        payload[:at],
+        payload[:at] + payload[to:],
+        payload[:to] + payload[at:],
+        payload[:at] + payload[at:to][::-1] + payload[to:],
+        payload[:at] + random_value(chance, 3) + payload[to:],
+    ])
+
+
+def random_payloads(chance, count):
+    made = 0
+    while made < count:
+        payload = random_value(chance, 9)
+        if 6 <= len(payload) <= 100 or chance.below(60) == 0:
+            made += 1
+            yield payload
+            yield mutated(chance, payload)
+            yield mutated(chance, mutated(chance, payload) or b"e")
+
+
+def large(chance):
+    numbers = [integer(chance.below(2**40) - 2**39) for _ in range(900)]
+    yield listing(*numbers)
+    yield listing(*numbers, b"i9223372036854775808e")
+    yield b"l" + b"".join(numbers)
+    text = bytes(chance.below(256) for _ in range(40000))
+    yield string(text)
+    yield listing(b"4:noop", string(text[:8192]), b"i1e")
+    yield b"10001:" + text[:10000]
+    yield b"9999:" + text[:10000]
+    keys = [b"%d" % n for n in range(1000, 3000)]
+    yield dictionary(*((k, b"0:") for k in reversed(keys)))
+    yield dictionary(*((k, b"0:") for k in keys))
+    yield dictionary(*((k, b"0:") for k in reversed(keys)), (keys[-1], b"0:"))
+    yield dictionary(*((k, b"0:") for k in keys), (keys[0], b"0:"))
+    torrents = [dictionary((b"id", integer(n)), (b"name", string(b"t%d" % n)))
+                for n in range(1, 400)]
+    yield listing(b"4:info", listing(*torrents))
+
+
+def profiles(payloads):
+    """Both profiles where a dictionary may be met, else one by turns."""
+    for number, payload in enumerate(payloads):
+        if b"d" in payload:
+            yield b"l", payload
+            yield b"s", payload
+        else:
+            yield b"ls"[number % 2:][:1], payload
+
+
+def all_cases():
+    chance = Chance(0x9E3779B97F4A7C15)
+    groups = [
+        named(), single_faults(chance), levels(chance), branches(), lengths(),
+        integers(), range_order(), key_orders(), key_faults(), key_scopes(),
+        many_keys(chance, 200), many_keys(chance, 20), trailing(),
+        random_payloads(chance, 2000), large(chance),
+    ]
+    return dict.fromkeys(profiles(itertools.chain(*groups)))
+
+
+def main():
+    cases, lines, counts = bytearray(), bytearray(), {}
+    for profile, payload in all_cases():
+        assert len(payload) <= MAX_BODY
+        code, offset = walk(payload, profile == b"s")
+        cases += profile + struct.pack("<I", len(payload)) + payload
+        lines += b"%d %d\n" % (code, offset)
+        row = counts.setdefault(code, {b"l": 0, b"s": 0})
+        row[profile] += 1
+    cases += b"l" + struct.pack("<I", 5) + b"i1"
+    lines += b"case fault\n"
+    assert len(cases) <= SIZE_LIMIT
+    FOLDER.mkdir(parents=True, exist_ok=True)
+    (FOLDER / "stdin").write_bytes(cases)
+    (FOLDER / "stdout").write_bytes(lines)
+    total = sum(n for row in counts.values() for n in row.values())
+    print(total, "cases and a cut one; bytes:", len(cases), len(lines))
+    for code, row in sorted(counts.items()):
+        print("code %2d: loose %5d, strict %5d" % (code, row[b"l"], row[b"s"]))
+
+
+if __name__ == "__main__":
+    main()
