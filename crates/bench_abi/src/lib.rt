@@ -1,7 +1,8 @@
 // The walk of a payload for the benchmark in bench/: the fault's code and offset, or 0 and the payload's length.
 ghost use mathlib.Core.Path.{_≡_};
+ghost use Rattle.bencode.specs.Fault.{codeOf, offsetOf};
 ghost use Rattle.bencode.specs.Walk.{payloadAt};
-ghost use Rattle.bench_abi.specs.Walked.{profileOf, codeOf, offsetOf};
+ghost use Rattle.bench_abi.specs.Profiles.{profileOf};
 use bencode::fault::Walk;
 use bencode::profile::Profile;
 

@@ -22,3 +22,5 @@ pub mod Lookups
 pub mod Grammar
 pub mod Levels
 pub mod FaultCodes
+pub mod FirstBytes
+pub mod KeyRule

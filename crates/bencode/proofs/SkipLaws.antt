@@ -5,7 +5,7 @@ use mathlib.Core.Path.{_≡_, refl, sym, _∙_}
 use mathlib.Core.Bool.{Bool, true, false, cond, _||_}
 use mathlib.Core.List.{List, [], _∷_}
 use native.Mathlib.Omega.{arith}
-use borrow.Author.Tests.{eqb-true, eq-eqb, ne-eqb}
+use borrow.Author.Tests.{eqb-true, ne-eqb}
 use lib.Dec.{eqb}
 use lib.ListN.{length}
 use Rattle.bencode.specs.declared.fault.Fault.{Fault}
@@ -19,11 +19,31 @@ use Rattle.bencode.specs.Key.{keyFault}
 use Rattle.bencode.specs.Loop.{Step, next, done, after, repeat}
 use Rattle.bencode.specs.Scalar.{scalarAt}
 use Rattle.bencode.specs.Walk.{onward, listStep, listFrom, entryStep, dictionaryStep, dictionaryFrom, valueAt}
-use Rattle.bencode.specs.Skip.{landed, pastScalar, skipStep, skipFrom}
+use Rattle.bencode.specs.Skip.{opens, landed, pastScalar, skipStep, skipFrom}
 use Rattle.bencode.proofs.NumeralLaws.{inside}
 use Rattle.bencode.proofs.LoopLaws.{Past, Onward, repeat-step}
+use Rattle.bencode.proofs.Order.{clash}
 use Rattle.bencode.proofs.Ends.{string-whole-inv, scalar-ends}
 
+-- ---- opening bytes
+pub opens-some : (b : ℕ) → opens b ≡ true → 100 ≤ b
+opens-some b o = go (eqb b 108) refl (eqb b 100) refl o
+  where
+    go : (t : Bool) → eqb b 108 ≡ t → (u : Bool) → eqb b 100 ≡ u → t || u ≡ true → 100 ≤ b
+    go true p u q o = omega (arith, eqb-true b 108 p)
+    go false p true q o = omega (arith, eqb-true b 100 q)
+    go false p false q o = clash false o refl
+
+not-opens : (b : ℕ) → (b ≡ 108 → ⊥) → (b ≡ 100 → ⊥) → opens b ≡ false
+not-opens b l d = rw (ne-eqb b 108 l, ne-eqb b 100 d) refl
+
+opens-list : (b : ℕ) → eqb b 108 ≡ true → opens b ≡ true
+opens-list b e = rw e refl
+
+opens-dictionary : (b : ℕ) → eqb b 100 ≡ true → opens b ≡ true
+opens-dictionary b e = rw (eqb-true b 100 e) refl
+
+-- ---- where a step of skipping lands
 landed-none : (at depth : ℕ) → depth ≡ 0 → landed at depth ≡ done at
 landed-none at depth e = rw e refl
 
@@ -55,11 +75,8 @@ module _ (s : List ℕ) where
   skip-step at depth = repeat-step s (skipStep s) skip-onward (λ (k : ℕ). k) at depth
 
   module _ (at depth : ℕ) where
-    pub skip-list : byteAt s at ≡ 108 → skipFrom s (at + 1) (depth + 1) ≡ skipFrom s at depth
-    skip-list b = rw (skip-step at depth, eq-eqb (byteAt s at) 108 b) refl
-
-    pub skip-dictionary : byteAt s at ≡ 100 → skipFrom s (at + 1) (depth + 1) ≡ skipFrom s at depth
-    skip-dictionary b = rw (skip-step at depth, b) refl
+    pub skip-open : opens (byteAt s at) ≡ true → skipFrom s (at + 1) (depth + 1) ≡ skipFrom s at depth
+    skip-open o = rw (skip-step at depth, o) refl
 
     pub skip-last : byteAt s at ≡ 101 → depth ≤ 1 → at + 1 ≡ skipFrom s at depth
     skip-last b h = rw (skip-step at depth, b, landed-none (at + 1) (depth - 1) (omega arith)) refl
@@ -67,9 +84,9 @@ module _ (s : List ℕ) where
     pub skip-close : byteAt s at ≡ 101 → 1 < depth → skipFrom s (at + 1) (depth - 1) ≡ skipFrom s at depth
     skip-close b h = rw (skip-step at depth, b, landed-some (at + 1) (depth - 1) (omega arith)) refl
 
-    module _ (l : byteAt s at ≡ 108 → ⊥) (d : byteAt s at ≡ 100 → ⊥) (e : byteAt s at ≡ 101 → ⊥) where
+    module _ (o : opens (byteAt s at) ≡ false) (e : byteAt s at ≡ 101 → ⊥) where
       skip-scalar-step : (w : Walk) → scalarAt s at ≡ w → skipFrom s at depth ≡ after (pastScalar at depth w) (λ to d. skipFrom s to d)
-      skip-scalar-step w x = rw (skip-step at depth, ne-eqb (byteAt s at) 108 l, ne-eqb (byteAt s at) 100 d, ne-eqb (byteAt s at) 101 e, x) refl
+      skip-scalar-step w x = rw (skip-step at depth, o, ne-eqb (byteAt s at) 101 e, x) refl
 
       pub skip-fault : (f : Fault) → scalarAt s at ≡ Walk.Fault f → at ≡ skipFrom s at depth
       skip-fault f x = sym (skip-scalar-step (Walk.Fault f) x)
@@ -112,7 +129,7 @@ module _ (s : List ℕ) where
   Skips value = (at end : ℕ) → value at ≡ Walk.End end → (depth : ℕ) → skipFrom s at depth ≡ after (landed end depth) (λ to d. skipFrom s to d)
 
   scalar-skips : Skips (scalarAt s)
-  scalar-skips at end e depth = let w = scalar-ends s at end e in skip-scalar-step at depth (w .no-list) (w .no-dictionary) (w .no-e) (Walk.End end) e
+  scalar-skips at end e depth = let w = scalar-ends s at end e in skip-scalar-step at depth (not-opens (byteAt s at) (w .no-list) (w .no-dictionary)) (w .no-e) (Walk.End end) e
 
   -- inside a list or a dictionary skipping goes on
   inner : (value : ℕ → Walk) → Skips value → (at end depth : ℕ) → value at ≡ Walk.End end → skipFrom s at (depth + 1) ≡ skipFrom s end (depth + 1)
@@ -173,6 +190,6 @@ module _ (s : List ℕ) where
       in-list h to e = list-skips (valueAt p levels s) h (fault 5 to) (suc (length s - to)) to end e depth
 
       go : (t : Bool) → eqb (byteAt s at) 108 ≡ t → (u : Bool) → eqb (byteAt s at) 100 ≡ u → Skips (valueAt p levels s) → cond t (listFrom (valueAt p levels s) s (at + 1)) (cond u (dictionaryFrom p (valueAt p levels s) s (at + 1) []) (scalarAt s at)) ≡ Walk.End end → skipFrom s at depth ≡ after (landed end depth) (λ to d. skipFrom s to d)
-      go true b u c h e = sym (skip-list at depth (eqb-true (byteAt s at) 108 b)) ∙ in-list h (at + 1) e
-      go false b true c h e = sym (skip-dictionary at depth (eqb-true (byteAt s at) 100 c)) ∙ dictionary-skips (valueAt p levels s) h (fault 5 (at + 1)) p (suc (length s - (at + 1))) (at + 1) [] end e depth
+      go true b u c h e = sym (skip-open at depth (opens-list (byteAt s at) b)) ∙ in-list h (at + 1) e
+      go false b true c h e = sym (skip-open at depth (opens-dictionary (byteAt s at) c)) ∙ dictionary-skips (valueAt p levels s) h (fault 5 (at + 1)) p (suc (length s - (at + 1))) (at + 1) [] end e depth
       go false b false c h e = scalar-skips at end e depth

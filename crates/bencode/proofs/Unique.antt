@@ -1,6 +1,6 @@
 -- A payload is the encoding of one value only: what stands at an offset decides the value.
 -- Assumes nothing.
-use Prim.Native.Nat.{ℕ, suc, _+_, _≤_}
+use Prim.Native.Nat.{ℕ, suc, _+_}
 use mathlib.Core.Path.{_≡_, refl, sym, ap, subst, _∙_}
 use mathlib.Core.List.{List, [], _∷_, _++_, append-nil}
 use native.Mathlib.Omega.{arith}
@@ -14,14 +14,8 @@ use Rattle.bencode.specs.Value.{Value, integer, string, list, dictionary
 use Rattle.bencode.specs.Demands.{OneValue}
 use Rattle.bencode.proofs.BeginsLaws.{begins-left, begins-right, begins-head}
 use Rattle.bencode.proofs.Encodings.{values-text, entries-text}
+use Rattle.bencode.proofs.FirstBytes.{FirstByte, first-byte, string-first, no-end}
 use Rattle.bencode.proofs.ScalarReads.{first-digit, numeral-reads, no-digit, string-reads}
-
--- the first byte of a value's encoding tells its kind
-abbrev Opens : Value → ℕ → Type 0
-Opens (integer z) b = b ≡ 105
-Opens (string text) b = (48 ≤ b) × (b ≤ 57)
-Opens (list vs) b = b ≡ 108
-Opens (dictionary es) b = b ≡ 100
 
 module _ (s : List ℕ) where
   -- ---- integers
@@ -55,30 +49,11 @@ module _ (s : List ℕ) where
       let ends : e ≡ f = cc in
       sym (p .2) ∙ ap (λ (k : ℕ). part s k e) starts ∙ ap (λ (k : ℕ). part s (q .0) k) ends ∙ q .2
 
-  string-opens : (at e : ℕ) (text rest : List ℕ) → Begins s at (encodeString text ++ rest) e → (48 ≤ byteAt s at) × (byteAt s at ≤ 57)
-  string-opens at e text rest b =
-      let l = begins-left s at (at + length (encodeString text)) (decimal (length text)) (58 ∷ text) (begins-left s at e (encodeString text) rest b) in
-      let f = first-digit s at (length text) (at + length (decimal (length text))) l in
-      (f .low, f .high)
-
-  opens : (v : Value) (at e : ℕ) (rest : List ℕ) → Begins s at (encode v ++ rest) e → Opens v (byteAt s at)
-  unfolding encode
-  opens (integer z) at e rest b = begins-head s at 105 e ((signedDecimal z ++ (101 ∷ [])) ++ rest) b
-  opens (string text) at e rest b = string-opens at e text rest b
-  opens (list vs) at e rest b = begins-head s at 108 e ((encodeAll vs ++ (101 ∷ [])) ++ rest) b
-  opens (dictionary es) at e rest b = begins-head s at 100 e ((encodeEntries es ++ (101 ∷ [])) ++ rest) b
-
-  no-end : (v : Value) (b : ℕ) → Opens v b → b ≡ 101 → ⊥
-  no-end (integer z) b h q = omega arith
-  no-end (string text) b h q = omega arith
-  no-end (list vs) b h q = omega arith
-  no-end (dictionary es) b h q = omega arith
-
   -- ---- values
   mutual
     unfolding encode
 
-    one-value : (v w : Value) (at e f : ℕ) → Opens v (byteAt s at) → Opens w (byteAt s at) → Begins s at (encode v) e → Begins s at (encode w) f → v ≡ w
+    one-value : (v w : Value) (at e f : ℕ) → FirstByte v (byteAt s at) → FirstByte w (byteAt s at) → Begins s at (encode v) e → Begins s at (encode w) f → v ≡ w
     one-value (integer y) (integer z) at e f g h b c =
         ap integer (one-integer (at + 1) e f y z (begins-right s at e (105 ∷ []) (signedDecimal y ++ (101 ∷ [])) b) (begins-right s at f (105 ∷ []) (signedDecimal z ++ (101 ∷ [])) c))
     one-value (string x) (string y) at e f g h b c = ap string (one-string at e f x y b c)
@@ -102,13 +77,13 @@ module _ (s : List ℕ) where
     one-list : (vs ws : Values) (at e f : ℕ) → Begins s at (encodeAll vs ++ (101 ∷ [])) e → Begins s at (encodeAll ws ++ (101 ∷ [])) f → vs ≡ ws
     one-list no-value no-value at e f b c = refl
     one-list no-value (value w ws) at e f b c =
-        absurd (no-end w (byteAt s at) (opens w at f (encodeAll ws ++ (101 ∷ [])) (subst (λ (l : List ℕ). Begins s at l f) (values-text w ws) c)) (begins-head s at 101 e [] b))
+        absurd (no-end s w (byteAt s at) (first-byte s w at f (encodeAll ws ++ (101 ∷ [])) (subst (λ (l : List ℕ). Begins s at l f) (values-text w ws) c)) (begins-head s at 101 e [] b))
     one-list (value v vs) no-value at e f b c =
-        absurd (no-end v (byteAt s at) (opens v at e (encodeAll vs ++ (101 ∷ [])) (subst (λ (l : List ℕ). Begins s at l e) (values-text v vs) b)) (begins-head s at 101 f [] c))
+        absurd (no-end s v (byteAt s at) (first-byte s v at e (encodeAll vs ++ (101 ∷ [])) (subst (λ (l : List ℕ). Begins s at l e) (values-text v vs) b)) (begins-head s at 101 f [] c))
     one-list (value v vs) (value w ws) at e f b c =
         let x = subst (λ (l : List ℕ). Begins s at l e) (values-text v vs) b in
         let y = subst (λ (l : List ℕ). Begins s at l f) (values-text w ws) c in
-        let i : v ≡ w = one-value v w at (at + length (encode v)) (at + length (encode w)) (opens v at e (encodeAll vs ++ (101 ∷ [])) x) (opens w at f (encodeAll ws ++ (101 ∷ [])) y) (begins-left s at e (encode v) (encodeAll vs ++ (101 ∷ [])) x) (begins-left s at f (encode w) (encodeAll ws ++ (101 ∷ [])) y) in
+        let i : v ≡ w = one-value v w at (at + length (encode v)) (at + length (encode w)) (first-byte s v at e (encodeAll vs ++ (101 ∷ [])) x) (first-byte s w at f (encodeAll ws ++ (101 ∷ [])) y) (begins-left s at e (encode v) (encodeAll vs ++ (101 ∷ [])) x) (begins-left s at f (encode w) (encodeAll ws ++ (101 ∷ [])) y) in
         let z = subst (λ (u : Value). Begins s (at + length (encode u)) (encodeAll ws ++ (101 ∷ [])) f) (sym i) (begins-right s at f (encode w) (encodeAll ws ++ (101 ∷ [])) y) in
         let j : vs ≡ ws = one-list vs ws (at + length (encode v)) e f (begins-right s at e (encode v) (encodeAll vs ++ (101 ∷ [])) x) z in
         ap (λ (u : Value). value u vs) i ∙ ap (value w) j
@@ -116,10 +91,10 @@ module _ (s : List ℕ) where
     one-dictionary : (es fs : Entries) (at e f : ℕ) → Begins s at (encodeEntries es ++ (101 ∷ [])) e → Begins s at (encodeEntries fs ++ (101 ∷ [])) f → es ≡ fs
     one-dictionary no-entry no-entry at e f b c = refl
     one-dictionary no-entry (entry k w fs) at e f b c =
-        let h = string-opens at f k (encode w ++ (encodeEntries fs ++ (101 ∷ []))) (subst (λ (l : List ℕ). Begins s at l f) (entries-text k w fs) c) in
+        let h = string-first s at f k (encode w ++ (encodeEntries fs ++ (101 ∷ []))) (subst (λ (l : List ℕ). Begins s at l f) (entries-text k w fs) c) in
         absurd (omega (arith, begins-head s at 101 e [] b))
     one-dictionary (entry k v es) no-entry at e f b c =
-        let h = string-opens at e k (encode v ++ (encodeEntries es ++ (101 ∷ []))) (subst (λ (l : List ℕ). Begins s at l e) (entries-text k v es) b) in
+        let h = string-first s at e k (encode v ++ (encodeEntries es ++ (101 ∷ []))) (subst (λ (l : List ℕ). Begins s at l e) (entries-text k v es) b) in
         absurd (omega (arith, begins-head s at 101 f [] c))
     one-dictionary (entry k v es) (entry l w fs) at e f b c =
         let x = subst (λ (l : List ℕ). Begins s at l e) (entries-text k v es) b in
@@ -128,7 +103,7 @@ module _ (s : List ℕ) where
         let m = at + length (encodeString k) in
         let x2 = begins-right s at e (encodeString k) (encode v ++ (encodeEntries es ++ (101 ∷ []))) x in
         let y2 = subst (λ (u : List ℕ). Begins s (at + length (encodeString u)) (encode w ++ (encodeEntries fs ++ (101 ∷ []))) f) (sym i) (begins-right s at f (encodeString l) (encode w ++ (encodeEntries fs ++ (101 ∷ []))) y) in
-        let j : v ≡ w = one-value v w m (m + length (encode v)) (m + length (encode w)) (opens v m e (encodeEntries es ++ (101 ∷ [])) x2) (opens w m f (encodeEntries fs ++ (101 ∷ [])) y2) (begins-left s m e (encode v) (encodeEntries es ++ (101 ∷ [])) x2) (begins-left s m f (encode w) (encodeEntries fs ++ (101 ∷ [])) y2) in
+        let j : v ≡ w = one-value v w m (m + length (encode v)) (m + length (encode w)) (first-byte s v m e (encodeEntries es ++ (101 ∷ [])) x2) (first-byte s w m f (encodeEntries fs ++ (101 ∷ [])) y2) (begins-left s m e (encode v) (encodeEntries es ++ (101 ∷ [])) x2) (begins-left s m f (encode w) (encodeEntries fs ++ (101 ∷ [])) y2) in
         let z = subst (λ (u : Value). Begins s (m + length (encode u)) (encodeEntries fs ++ (101 ∷ [])) f) (sym j) (begins-right s m f (encode w) (encodeEntries fs ++ (101 ∷ [])) y2) in
         let n : es ≡ fs = one-dictionary es fs (m + length (encode v)) e f (begins-right s m e (encode v) (encodeEntries es ++ (101 ∷ [])) x2) z in
         ap (λ (u : List ℕ). entry u v es) i ∙ ap (λ (u : Value). entry l u es) j ∙ ap (entry l w) n
@@ -140,4 +115,4 @@ pub one-value-only : OneValue
 one-value-only v w e =
     let b = whole-begins (encode v) (encode v) refl in
     let c = whole-begins (encode v) (encode w) e in
-    one-value (encode v) v w 0 (length (encode v)) (length (encode w)) (opens (encode v) v 0 (length (encode v)) [] (rw append-nil b)) (opens (encode v) w 0 (length (encode w)) [] (rw append-nil c)) b c
+    one-value (encode v) v w 0 (length (encode v)) (length (encode w)) (first-byte (encode v) v 0 (length (encode v)) [] (rw append-nil b)) (first-byte (encode v) w 0 (length (encode w)) [] (rw append-nil c)) b c

@@ -7,6 +7,31 @@ use mathlib.Core.List.{List, [], _∷_, _++_}
 use lib.Dec.{eqb, ltb}
 use lib.ListN.{length, getD, take, drop}
 
+-- the bytes that the grammar names, in ASCII
+abbrev pub letterD : ℕ
+letterD = 100
+
+abbrev pub letterE : ℕ
+letterE = 101
+
+abbrev pub letterI : ℕ
+letterI = 105
+
+abbrev pub letterL : ℕ
+letterL = 108
+
+abbrev pub colon : ℕ
+colon = 58
+
+abbrev pub minus : ℕ
+minus = 45
+
+abbrev pub digit0 : ℕ
+digit0 = 48
+
+abbrev pub digit9 : ℕ
+digit9 = 57
+
 -- the byte at an offset, and 0 past the end
 abbrev pub byteAt : List ℕ → ℕ → ℕ
 byteAt s at = getD s at 0

@@ -1,11 +1,10 @@
--- What is proved of payloads as a whole. Each statement is a type; proofs/Grammar, Unique and Lookups have the proofs.
+-- What is proved of payloads as a whole. Each statement is a type; its proof stands in proofs/ under the same name in lower case.
 -- Assumes nothing.
-use Prim.Native.Nat.{ℕ, _+_, _-_, _^_, _<_}
+use Prim.Native.Nat.{ℕ, _+_, _-_}
 use mathlib.Core.Path.{_≡_}
 use mathlib.Core.Logic.{_↔_}
-use mathlib.Core.List.{List, [], _∷_, _++_}
-use lib.IntN.{ℤ}
-use lib.Signed.{mag}
+use mathlib.Core.Bool.{true}
+use mathlib.Core.List.{List, [], _∷_, _++_, List·Memᴰ}
 use lib.ListN.{length}
 use Rattle.bencode.specs.declared.entry.Entry.{Entry}
 use Rattle.bencode.specs.declared.fault.Fault.{Fault}
@@ -14,15 +13,16 @@ use Rattle.bencode.specs.declared.integer.Number.{Number}
 use Rattle.bencode.specs.declared.item.Item.{Item}
 use Rattle.bencode.specs.declared.profile.Profile.{Profile}
 use Rattle.bencode.specs.declared.string.Text.{Text}
-use Rattle.bencode.specs.Bytes.{part, Begins}
+use Rattle.bencode.specs.Bytes.{letterE, byteAt, part, less, Begins}
 use Rattle.bencode.specs.Depth.{largestDepth}
 use Rattle.bencode.specs.String.{stringAt}
 use Rattle.bencode.specs.Integer.{integerAt}
+use Rattle.bencode.specs.Key.{keyFault, isFaultCode}
 use Rattle.bencode.specs.Walk.{payloadAt}
 use Rattle.bencode.specs.Skip.{skipValue, skipRest}
 use Rattle.bencode.specs.Entry.{entryAt}
 use Rattle.bencode.specs.Item.{itemAt}
-use Rattle.bencode.specs.Value.{Value, integer, string, Values, Entries, encode, encodeAll, encodeEntries, All, AllEntries, WellFormed, Found, found, missing, lookup}
+use Rattle.bencode.specs.Value.{Value, integer, string, list, dictionary, Values, Entries, encode, encodeAll, encodeEntries, All, AllEntries, WellFormed, Found, found, missing, lookup, lookupAt}
 
 -- demand 2, for payloads: the walk accepts exactly the encodings of well-formed values
 abbrev pub AcceptsExactly : Type 0
@@ -32,14 +32,38 @@ AcceptsExactly = (p : Profile) (s : List ℕ) → (payloadAt p s ≡ Walk.End (l
 abbrev pub OneValue : Type 0
 OneValue = (v w : Value) → encode v ≡ encode w → v ≡ w
 
--- ---- looking into a payload where a value's encoding stands
--- an integer in the range is read as its value
-abbrev pub ReadsInteger : Type 0
-ReadsInteger = (s : List ℕ) (at end : ℕ) (z : ℤ) → mag z < 2 ^ 63 → Begins s at (encode (integer z)) end → integerAt s at ≡ Number.Integer z end
+-- the loose profile allows a key exactly where it comes once
+abbrev pub KeysOnce : Type 0
+KeysOnce = (keys : List (List ℕ)) (key : List ℕ) → (keyFault Profile.Loose keys key ≡ 0) ↔ (List·Memᴰ key keys → ⊥)
 
--- a string is read as its text, which is the end of its encoding
+-- the strict profile allows a key exactly where every earlier one is below it
+abbrev pub KeysRise : Type 0
+KeysRise = (keys : List (List ℕ)) (key : List ℕ) → (keyFault Profile.Strict keys key ≡ 0) ↔ ((k : List ℕ) → List·Memᴰ k keys → less k key ≡ true)
+
+-- a payload's fault has a code of its profile, which is never 0
+abbrev pub FaultsCoded : Type 0
+FaultsCoded = (p : Profile) (s : List ℕ) (f : Fault) → payloadAt p s ≡ Walk.Fault f → isFaultCode p (f .code) ≡ true
+
+-- ---- looking into a payload where a value's encoding stands
+-- what reading an integer answers there: its value, or a fault where it is none
+abbrev pub IntegerRead : Value → ℕ → Number → Type 0
+IntegerRead (integer z) end n = n ≡ Number.Integer z end
+IntegerRead (string text) end n = (f : Fault) × (n ≡ Number.Fault f)
+IntegerRead (list vs) end n = (f : Fault) × (n ≡ Number.Fault f)
+IntegerRead (dictionary es) end n = (f : Fault) × (n ≡ Number.Fault f)
+
+abbrev pub ReadsInteger : Type 0
+ReadsInteger = (p : Profile) (levels : ℕ) (v : Value) (s : List ℕ) (at end : ℕ) → WellFormed p levels v → Begins s at (encode v) end → IntegerRead v end (integerAt s at)
+
+-- what reading a string answers there: its text, which is the end of its encoding, or a fault where it is none
+abbrev pub StringRead : List ℕ → Value → ℕ → Text → Type 0
+StringRead s (string text) end t = (t ≡ Text.Bytes (end - length text) end) × (part s (end - length text) end ≡ text)
+StringRead s (integer z) end t = (f : Fault) × (t ≡ Text.Fault f)
+StringRead s (list vs) end t = (f : Fault) × (t ≡ Text.Fault f)
+StringRead s (dictionary es) end t = (f : Fault) × (t ≡ Text.Fault f)
+
 abbrev pub ReadsString : Type 0
-ReadsString = (s : List ℕ) (at end : ℕ) (text : List ℕ) → Begins s at (encode (string text)) end → (stringAt s at ≡ Text.Bytes (end - length text) end) × (part s (end - length text) end ≡ text)
+ReadsString = (v : Value) (s : List ℕ) (at end : ℕ) → Begins s at (encode v) end → StringRead s v end (stringAt s at)
 
 -- a well-formed value is skipped to its end
 abbrev pub SkipsValue : Type 0
@@ -47,18 +71,22 @@ SkipsValue = (p : Profile) (levels : ℕ) (v : Value) (s : List ℕ) (at end : �
 
 -- the rest of a list is skipped to the list's end
 abbrev pub SkipsItems : Type 0
-SkipsItems = (p : Profile) (levels : ℕ) (vs : Values) (s : List ℕ) (at end : ℕ) → All (WellFormed p levels) vs → Begins s at (encodeAll vs ++ (101 ∷ [])) end → skipRest s at ≡ end
+SkipsItems = (p : Profile) (levels : ℕ) (vs : Values) (s : List ℕ) (at end : ℕ) → All (WellFormed p levels) vs → Begins s at (encodeAll vs ++ (letterE ∷ [])) end → skipRest s at ≡ end
 
 -- the rest of a dictionary, after the keys before it, is skipped to the dictionary's end
 abbrev pub SkipsEntries : Type 0
-SkipsEntries = (p : Profile) (levels : ℕ) (es : Entries) (keys : List (List ℕ)) (s : List ℕ) (at end : ℕ) → AllEntries p (WellFormed p levels) keys es → Begins s at (encodeEntries es ++ (101 ∷ [])) end → skipRest s at ≡ end
+SkipsEntries = (p : Profile) (levels : ℕ) (es : Entries) (keys : List (List ℕ)) (s : List ℕ) (at end : ℕ) → AllEntries p (WellFormed p levels) keys es → Begins s at (encodeEntries es ++ (letterE ∷ [])) end → skipRest s at ≡ end
 
--- an item of a list is found up to its end; at the list's `e` there is none (itemAt)
+-- an item of a list is found up to its end
 abbrev pub FindsItem : Type 0
 FindsItem = (p : Profile) (levels : ℕ) (v : Value) (s : List ℕ) (at end : ℕ) → WellFormed p levels v → Begins s at (encode v) end → itemAt s at ≡ Item.Value end
 
--- what a search answers for the value of a key, in a dictionary that ends at `end`: an offset where that value's encoding
--- stands, with the rest of the dictionary after it; or that there is none
+-- at the list's `e` there is no item
+abbrev pub EndsItems : Type 0
+EndsItems = (s : List ℕ) (at : ℕ) → byteAt s at ≡ letterE → itemAt s at ≡ Item.End
+
+-- what a search finds of a key, in a dictionary that ends at `end`: a value whose encoding stands at the offset, with the
+-- rest of the dictionary after it; or none
 abbrev pub Located : Profile → ℕ → List ℕ → ℕ → Found → Entry → Type 0
 Located p levels s end (found v) (Entry.At at) = WellFormed p levels v × Begins s at (encode v) (at + length (encode v)) × (skipRest s (at + length (encode v)) ≡ end)
 Located p levels s end (found v) Entry.Missing = ⊥
@@ -67,8 +95,4 @@ Located p levels s end missing Entry.Missing = Unit {0}
 
 -- a key is found in a dictionary exactly where its value stands
 abbrev pub FindsEntry : Type 0
-FindsEntry = (p : Profile) (levels : ℕ) (es : Entries) (keys : List (List ℕ)) (s : List ℕ) (at end : ℕ) (key : List ℕ) → AllEntries p (WellFormed p levels) keys es → Begins s at (encodeEntries es ++ (101 ∷ [])) end → Located p levels s end (lookup key es) (entryAt s key at)
-
--- no fault has the code 0, which is that of what is accepted
-abbrev pub FaultsCoded : Type 0
-FaultsCoded = (p : Profile) (s : List ℕ) (f : Fault) → payloadAt p s ≡ Walk.Fault f → f .code ≡ 0 → ⊥
+FindsEntry = (p : Profile) (levels : ℕ) (es : Entries) (keys : List (List ℕ)) (s : List ℕ) (at end : ℕ) (key : List ℕ) → AllEntries p (WellFormed p levels) keys es → Begins s at (encodeEntries es ++ (letterE ∷ [])) end → (entryAt s key at ≡ lookupAt key es at) × Located p levels s end (lookup key es) (entryAt s key at)

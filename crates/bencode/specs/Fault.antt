@@ -2,7 +2,18 @@
 -- Assumes nothing.
 use Prim.Native.Nat.{ℕ}
 use Rattle.bencode.specs.declared.fault.Fault.{Fault}
+use Rattle.bencode.specs.declared.fault.Walk.{Walk}
 
 -- the fault with a code at an offset
 abbrev pub fault : ℕ → ℕ → Fault
 fault c at = record { code = c; offset = at }
+
+-- the code of a walk: its fault's, and 0 where it is accepted
+abbrev pub codeOf : Walk → ℕ
+codeOf (Walk.End end) = 0
+codeOf (Walk.Fault f) = f .code
+
+-- the offset of a walk: its fault's, or the one after the value
+abbrev pub offsetOf : Walk → ℕ
+offsetOf (Walk.End end) = end
+offsetOf (Walk.Fault f) = f .offset

@@ -1,6 +1,6 @@
 -- Integers: `i`, an optional `-`, decimal digits, `e`; no leading zero, no `-0` (document 01, 'The frame').
 -- Assumes nothing.
-use Prim.Native.Nat.{ℕ, _+_, _^_}
+use Prim.Native.Nat.{ℕ, _+_, _^_, _<_}
 use mathlib.Core.Bool.{Bool, true, false, cond}
 use mathlib.Core.List.{List}
 use lib.IntN.{ℤ, pos, negℤ}
@@ -9,7 +9,7 @@ use lib.Dec.{ltb, eqb}
 use Rattle.bencode.specs.declared.numeral.Decimal.{Decimal}
 use Rattle.bencode.specs.declared.integer.Number.{Number}
 use Rattle.bencode.specs.declared.fault.Walk.{Walk}
-use Rattle.bencode.specs.Bytes.{byteAt}
+use Rattle.bencode.specs.Bytes.{letterE, letterI, minus, digit0, byteAt}
 use Rattle.bencode.specs.Fault.{fault}
 use Rattle.bencode.specs.Numeral.{numeralAt}
 
@@ -18,15 +18,22 @@ abbrev pub signed : Bool → ℕ → ℤ
 signed true n = negℤ (pos n)
 signed false n = pos n
 
--- the integer z whose `i` is at an offset, where it is in the range of 64 bits; else 6 at the `i`
+-- the range of 64 bits, from -2 ^ 63 to 2 ^ 63 - 1: `mag` is n of both n and -(n + 1)
+abbrev pub rangeBound : ℕ
+rangeBound = 2 ^ 63
+
+abbrev pub InRange : ℤ → Type 0
+InRange z = mag z < rangeBound
+
+-- the integer z whose `i` is at an offset, where it is in the range; else 6 at the `i`
 abbrev pub inRange : ℕ → ℤ → ℕ → Number
-inRange at z end = cond (ltb (mag z) (2 ^ 63)) (Number.Integer z end) (Number.Fault (fault 6 at))
+inRange at z end = cond (ltb (mag z) rangeBound) (Number.Integer z end) (Number.Fault (fault 6 at))
 
 -- the integer whose digits, from an offset on, are the numeral n: its form is judged before its range
 abbrev pub integerOf : List ℕ → ℕ → ℕ → Bool → Decimal → Number
 integerOf s at from negative n =
     cond (eqb (n .end) from) (Number.Fault (fault 5 from))
-    (cond (eqb (byteAt s (n .end)) 101)
+    (cond (eqb (byteAt s (n .end)) letterE)
     (inRange at (signed negative (n .number)) (n .end + 1))
     (Number.Fault (fault 5 (n .end))))
 
@@ -36,9 +43,9 @@ integerFrom s at from negative = integerOf s at from negative (numeralAt s from)
 -- the integer at an offset: its value and the offset after it, or the fault
 unfoldable pub integerAt : List ℕ → ℕ → Number
 integerAt s at =
-    cond (eqb (byteAt s at) 105)
-    (cond (eqb (byteAt s (at + 1)) 45)
-    (cond (eqb (byteAt s (at + 2)) 48)
+    cond (eqb (byteAt s at) letterI)
+    (cond (eqb (byteAt s (at + 1)) minus)
+    (cond (eqb (byteAt s (at + 2)) digit0)
     (Number.Fault (fault 5 (at + 2)))
     (integerFrom s at (at + 2) true))
     (integerFrom s at (at + 1) false))

@@ -5,7 +5,7 @@ use mathlib.Core.Bool.{cond}
 use mathlib.Core.List.{List}
 use lib.Dec.{eqb, leb}
 use Rattle.bencode.specs.declared.item.Item.{Item}
-use Rattle.bencode.specs.Bytes.{byteAt}
+use Rattle.bencode.specs.Bytes.{letterE, byteAt}
 use Rattle.bencode.specs.Skip.{skipValue}
 
 -- an item by the offset after it; one that does not end after it starts is none
@@ -14,4 +14,4 @@ itemTo at end = cond (leb end at) Item.End (Item.Value end)
 
 -- what stands at an offset of a list, between two of its items: an item, or the list's end
 unfoldable pub itemAt : List ℕ → ℕ → Item
-itemAt s at = cond (eqb (byteAt s at) 101) Item.End (itemTo at (skipValue s at))
+itemAt s at = cond (eqb (byteAt s at) letterE) Item.End (itemTo at (skipValue s at))

@@ -3,6 +3,7 @@
 use Prim.Native.Nat.{ℕ}
 use mathlib.Core.Bool.{Bool, true, false, cond, _&&_, _||_}
 use mathlib.Core.List.{List, [], _∷_}
+use lib.Dec.{eqb, leb}
 use Rattle.bencode.specs.declared.profile.Profile.{Profile}
 use Rattle.bencode.specs.Bytes.{same, less}
 
@@ -24,3 +25,11 @@ orderFault Profile.Strict rises = cond rises 0 11
 -- the fault of a key after the earlier keys of its dictionary, the latest of them first: 8 where it comes again, 0 for none
 unfoldable pub keyFault : Profile → List (List ℕ) → List ℕ → ℕ
 keyFault p keys key = cond (isUsed key keys) 8 (orderFault p (isAbove key keys))
+
+-- the codes of a profile's faults: 5 to 9, and 11 in the strict one
+abbrev pub isOrderCode : Profile → ℕ → Bool
+isOrderCode Profile.Loose c = false
+isOrderCode Profile.Strict c = eqb c 11
+
+abbrev pub isFaultCode : Profile → ℕ → Bool
+isFaultCode p c = (leb 5 c && leb c 9) || isOrderCode p c

@@ -1,4 +1,5 @@
--- A loop over a payload, as a function: steps from an offset on, each of which ends further right.
+-- A loop over a payload, as a function: steps from an offset on. In every loop here each step ends further right, so the
+-- number of steps below is enough (proofs/LoopLaws: `repeat-step` takes one step off any loop, with no word of the number).
 -- Assumes nothing.
 use Prim.Native.Nat.{ℕ, zero, suc, _-_}
 use mathlib.Core.List.{List}

@@ -6,17 +6,17 @@ use mathlib.Core.List.{List, [], _∷_}
 use lib.ListN.{drop}
 use lib.Dec.{leb, ltb, eqb}
 use Rattle.bencode.specs.declared.numeral.Decimal.{Decimal}
-use Rattle.bencode.specs.Bytes.{byteAt}
+use Rattle.bencode.specs.Bytes.{digit0, digit9, byteAt}
 
 -- is a byte one of 0 to 9
 abbrev pub isDigit : ℕ → Bool
-isDigit b = leb 48 b && leb b 57
+isDigit b = leb digit0 b && leb b digit9
 
 -- the digits that a list opens with, from an offset on and after the number n: the offset after them, and the number
 unfoldable pub digits : ℕ → ℕ → List ℕ → Decimal
 digits n at [] = record { end = at; number = n }
 digits n at (b ∷ bs) =
-    let more = digits (n * 10 + (b - 48)) (at + 1) bs in
+    let more = digits (n * 10 + (b - digit0)) (at + 1) bs in
     cond (isDigit b) more (record { end = at; number = n })
 
 -- the digits of a payload from an offset on
@@ -25,18 +25,18 @@ digitsAt s at = digits 0 at (drop at s)
 
 -- the numeral at an offset: 0, or digits with no leading 0
 unfoldable pub numeralAt : List ℕ → ℕ → Decimal
-numeralAt s at = cond (eqb (byteAt s at) 48) (record { end = at + 1; number = 0 }) (digitsAt s at)
+numeralAt s at = cond (eqb (byteAt s at) digit0) (record { end = at + 1; number = 0 }) (digitsAt s at)
 
 -- a numeral with its number at most the largest u64: no longer string fits a machine, and no larger integer is in range
 abbrev pub capped : Decimal → Decimal
 capped n = record { end = n .end; number = min (n .number) (2 ^ 64 - 1) }
 
--- the decimal digits of n before a rest, the last digit first; more than n are never asked for
+-- at most k decimal digits of n before a rest, the last digit first
 unfoldable pub decimalBefore : ℕ → ℕ → List ℕ → List ℕ
 decimalBefore zero n rest = rest
 decimalBefore (suc k) n rest =
-    let more = decimalBefore k (n / 10) ((48 + n % 10) ∷ rest) in
-    cond (ltb n 10) ((48 + n) ∷ rest) more
+    let more = decimalBefore k (n / 10) ((digit0 + n % 10) ∷ rest) in
+    cond (ltb n 10) ((digit0 + n) ∷ rest) more
 
 -- a number written in decimal, with no leading zero
 unfoldable pub decimal : ℕ → List ℕ

@@ -5,10 +5,10 @@ use mathlib.Core.Bool.{cond}
 use mathlib.Core.List.{List}
 use lib.Dec.{eqb}
 use Rattle.bencode.specs.declared.fault.Walk.{Walk}
-use Rattle.bencode.specs.Bytes.{byteAt}
+use Rattle.bencode.specs.Bytes.{letterI, byteAt}
 use Rattle.bencode.specs.String.{stringAt, textEnd}
 use Rattle.bencode.specs.Integer.{integerAt, numberEnd}
 
 -- the offset after the string or the integer at an offset
 unfoldable pub scalarAt : List ℕ → ℕ → Walk
-scalarAt s at = cond (eqb (byteAt s at) 105) (numberEnd (integerAt s at)) (textEnd (stringAt s at))
+scalarAt s at = cond (eqb (byteAt s at) letterI) (numberEnd (integerAt s at)) (textEnd (stringAt s at))

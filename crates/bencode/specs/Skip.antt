@@ -1,11 +1,11 @@
--- Where a value ends that has been walked before: nothing is checked again, and nesting is only counted.
+-- Where a value ends that has been walked before: keys and depth are not checked again, nesting is only counted.
 -- Assumes nothing.
 use Prim.Native.Nat.{ℕ, zero, suc, _+_, _-_}
-use mathlib.Core.Bool.{cond, _||_}
+use mathlib.Core.Bool.{Bool, cond, _||_}
 use mathlib.Core.List.{List}
 use lib.Dec.{eqb}
 use Rattle.bencode.specs.declared.fault.Walk.{Walk}
-use Rattle.bencode.specs.Bytes.{byteAt}
+use Rattle.bencode.specs.Bytes.{letterD, letterE, letterL, byteAt}
 use Rattle.bencode.specs.Loop.{Step, next, done, repeatFrom}
 use Rattle.bencode.specs.Scalar.{scalarAt}
 
@@ -14,16 +14,20 @@ abbrev pub landed : ℕ → ℕ → Step ℕ ℕ
 landed at zero = done at
 landed at (suc depth) = next at (suc depth)
 
--- after a string or an integer at an offset; where there is none, skipping ends there
+-- after a string or an integer at an offset; where there is none, skipping ends at that offset
 abbrev pub pastScalar : ℕ → ℕ → Walk → Step ℕ ℕ
 pastScalar at depth (Walk.End end) = landed end depth
 pastScalar at depth (Walk.Fault f) = done at
 
+-- does a byte open a list or a dictionary
+abbrev pub opens : ℕ → Bool
+opens b = eqb b letterL || eqb b letterD
+
 -- a step of skipping: one opening byte, one `e`, one string or one integer
 abbrev pub skipStep : List ℕ → ℕ → ℕ → Step ℕ ℕ
 skipStep s at depth =
-    cond (eqb (byteAt s at) 108 || eqb (byteAt s at) 100) (next (at + 1) (depth + 1))
-    (cond (eqb (byteAt s at) 101) (landed (at + 1) (depth - 1))
+    cond (opens (byteAt s at)) (next (at + 1) (depth + 1))
+    (cond (eqb (byteAt s at) letterE) (landed (at + 1) (depth - 1))
     (pastScalar at depth (scalarAt s at)))
 
 -- skipping on from an offset with so many lists and dictionaries open

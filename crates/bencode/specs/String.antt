@@ -8,7 +8,7 @@ use lib.Dec.{leb, eqb}
 use Rattle.bencode.specs.declared.numeral.Decimal.{Decimal}
 use Rattle.bencode.specs.declared.string.Text.{Text}
 use Rattle.bencode.specs.declared.fault.Walk.{Walk}
-use Rattle.bencode.specs.Bytes.{byteAt}
+use Rattle.bencode.specs.Bytes.{colon, byteAt}
 use Rattle.bencode.specs.Fault.{fault}
 use Rattle.bencode.specs.Numeral.{numeralAt}
 
@@ -16,7 +16,7 @@ use Rattle.bencode.specs.Numeral.{numeralAt}
 abbrev pub stringOf : List ℕ → ℕ → Decimal → Text
 stringOf s at n =
     cond (eqb (n .end) at) (Text.Fault (fault 5 at))
-    (cond (eqb (byteAt s (n .end)) 58)
+    (cond (eqb (byteAt s (n .end)) colon)
     (cond (leb (n .number) (length s - (n .end + 1)))
     (Text.Bytes (n .end + 1) (n .end + 1 + n .number))
     (Text.Fault (fault 5 (length s))))

@@ -1,15 +1,16 @@
 -- The grammar: bencoded values, how each is written, and which are well formed (BEP 3, and document 01, 'The frame').
 -- Assumes nothing.
-use Prim.Native.Nat.{ℕ, zero, suc, _^_, _<_}
+use Prim.Native.Nat.{ℕ, zero, suc, _+_}
 use mathlib.Core.Path.{_≡_}
 use mathlib.Core.Bool.{cond}
 use mathlib.Core.List.{List, [], _∷_, _++_}
 use lib.IntN.{ℤ, pos, negsuc}
-use lib.Signed.{mag}
 use lib.ListN.{length}
+use Rattle.bencode.specs.declared.entry.Entry.{Entry}
 use Rattle.bencode.specs.declared.profile.Profile.{Profile}
-use Rattle.bencode.specs.Bytes.{same}
+use Rattle.bencode.specs.Bytes.{letterD, letterE, letterI, letterL, colon, minus, same}
 use Rattle.bencode.specs.Numeral.{decimal}
+use Rattle.bencode.specs.Integer.{InRange}
 use Rattle.bencode.specs.Key.{keyFault}
 
 mutual
@@ -31,19 +32,19 @@ mutual
 -- an integer's digits, after `-` where it is negative
 abbrev pub signedDecimal : ℤ → List ℕ
 signedDecimal (pos n) = decimal n
-signedDecimal (negsuc n) = 45 ∷ decimal (suc n)
+signedDecimal (negsuc n) = minus ∷ decimal (suc n)
 
 -- a string: its length, a colon and its bytes
 abbrev pub encodeString : List ℕ → List ℕ
-encodeString text = decimal (length text) ++ (58 ∷ text)
+encodeString text = decimal (length text) ++ (colon ∷ text)
 
 unfoldable mutual
   -- how a value is written
   pub encode : Value → List ℕ
-  encode (integer z) = 105 ∷ (signedDecimal z ++ (101 ∷ []))
+  encode (integer z) = letterI ∷ (signedDecimal z ++ (letterE ∷ []))
   encode (string text) = encodeString text
-  encode (list vs) = 108 ∷ (encodeAll vs ++ (101 ∷ []))
-  encode (dictionary es) = 100 ∷ (encodeEntries es ++ (101 ∷ []))
+  encode (list vs) = letterL ∷ (encodeAll vs ++ (letterE ∷ []))
+  encode (dictionary es) = letterD ∷ (encodeEntries es ++ (letterE ∷ []))
 
   pub encodeAll : Values → List ℕ
   encodeAll no-value = []
@@ -65,11 +66,11 @@ AllEntries p formed keys (entry key v es) = (keyFault p keys key ≡ 0) × forme
 
 -- a value whose integers are in the range of 64 bits, whose keys are allowed and that is at most so many levels deep
 abbrev pub WellFormed : Profile → ℕ → Value → Type 0
-WellFormed p zero (integer z) = mag z < 2 ^ 63
+WellFormed p zero (integer z) = InRange z
 WellFormed p zero (string text) = Unit {0}
 WellFormed p zero (list vs) = ⊥
 WellFormed p zero (dictionary es) = ⊥
-WellFormed p (suc levels) (integer z) = mag z < 2 ^ 63
+WellFormed p (suc levels) (integer z) = InRange z
 WellFormed p (suc levels) (string text) = Unit {0}
 WellFormed p (suc levels) (list vs) = All (λ v. WellFormed p levels v) vs
 WellFormed p (suc levels) (dictionary es) = AllEntries p (λ v. WellFormed p levels v) [] es
@@ -83,3 +84,10 @@ pub data Found : Type 0 where
 abbrev pub lookup : List ℕ → Entries → Found
 lookup key no-entry = missing
 lookup key (entry k v es) = let rest = lookup key es in cond (same k key) (found v) rest
+
+-- where that value stands in the dictionary whose entries start at an offset
+abbrev pub lookupAt : List ℕ → Entries → ℕ → Entry
+lookupAt key no-entry at = Entry.Missing
+lookupAt key (entry k v es) at =
+    let rest = lookupAt key es (at + length (encodeString k) + length (encode v)) in
+    cond (same k key) (Entry.At (at + length (encodeString k))) rest

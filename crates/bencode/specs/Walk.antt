@@ -8,7 +8,7 @@ use lib.ListN.{length}
 use Rattle.bencode.specs.declared.string.Text.{Text}
 use Rattle.bencode.specs.declared.fault.Walk.{Walk}
 use Rattle.bencode.specs.declared.profile.Profile.{Profile}
-use Rattle.bencode.specs.Bytes.{byteAt, part}
+use Rattle.bencode.specs.Bytes.{letterD, letterE, letterL, byteAt, part}
 use Rattle.bencode.specs.Loop.{Step, next, done, repeatFrom}
 use Rattle.bencode.specs.Fault.{fault}
 use Rattle.bencode.specs.String.{stringAt}
@@ -23,7 +23,7 @@ onward (Walk.Fault f) x = done (Walk.Fault f)
 
 -- a step of a list: its end, or one value
 abbrev pub listStep : (ℕ → Walk) → List ℕ → ℕ → Unit {0} → Step (Unit {0}) Walk
-listStep value s at x = cond (eqb (byteAt s at) 101) (done (Walk.End (at + 1))) (onward (value at) x)
+listStep value s at x = cond (eqb (byteAt s at) letterE) (done (Walk.End (at + 1))) (onward (value at) x)
 
 -- the offset after the list whose values start at an offset, where `value` walks one
 unfoldable pub listFrom : (ℕ → Walk) → List ℕ → ℕ → Walk
@@ -40,7 +40,7 @@ entryStep p value s at keys (Text.Fault f) = done (Walk.Fault f)
 
 -- a step of a dictionary: its end, or one entry
 abbrev pub dictionaryStep : Profile → (ℕ → Walk) → List ℕ → ℕ → List (List ℕ) → Step (List (List ℕ)) Walk
-dictionaryStep p value s at keys = cond (eqb (byteAt s at) 101) (done (Walk.End (at + 1))) (entryStep p value s at keys (stringAt s at))
+dictionaryStep p value s at keys = cond (eqb (byteAt s at) letterE) (done (Walk.End (at + 1))) (entryStep p value s at keys (stringAt s at))
 
 -- the offset after the dictionary whose entries go on at an offset, after the earlier keys
 unfoldable pub dictionaryFrom : Profile → (ℕ → Walk) → List ℕ → ℕ → List (List ℕ) → Walk
@@ -49,8 +49,8 @@ dictionaryFrom p value s at keys = repeatFrom s (dictionaryStep p value s) (Walk
 -- the value at an offset by its first byte, given what a list there and a dictionary there come to
 abbrev pub byFirst : List ℕ → ℕ → Walk → Walk → Walk
 byFirst s at list dictionary =
-    cond (eqb (byteAt s at) 108) list
-    (cond (eqb (byteAt s at) 100) dictionary
+    cond (eqb (byteAt s at) letterL) list
+    (cond (eqb (byteAt s at) letterD) dictionary
     (scalarAt s at))
 
 -- the offset after the value at an offset, with so many levels left for lists and dictionaries

@@ -8,10 +8,17 @@ use super::fault::Fault;
 use super::fault::Walk;
 use super::numeral::numeral;
 
-// What stands where an integer is wanted: its value and the offset after it, or the fault.
+// What stands where an integer is expected: its value and the offset after it, or the fault.
 pub enum Number {
     Integer { value: i64, end: usize },
     Fault(Fault),
+}
+
+impl Number {
+    // The largest integer.
+    pub const LARGEST: u64 = 9223372036854775807;
+    // How far the smallest is below zero.
+    pub const LOWEST: u64 = 9223372036854775808;
 }
 
 // The negative of a number.
@@ -31,7 +38,7 @@ fn in_range(at: usize, negative: bool, number: u64, end: usize) -> Number
     ensures { λ r. ⌜ r ≡ inRange at (signed negative number) end ⌝ }
 {
     if negative {
-        if 9223372036854775808 < number {
+        if Number::LOWEST < number {
             return Number::Fault(Fault {
                 code: Fault::RANGE,
                 offset: at,
@@ -42,7 +49,7 @@ fn in_range(at: usize, negative: bool, number: u64, end: usize) -> Number
             end,
         };
     }
-    if 9223372036854775807 < number {
+    if Number::LARGEST < number {
         return Number::Fault(Fault {
             code: Fault::RANGE,
             offset: at,

@@ -24,7 +24,8 @@ pub enum KeyCheck {
     Refused(u8),
 }
 
-// Is the key from start up to end among the earlier ones of the entries from first on: the search finds it itself at the latest.
+// Is the key from start up to end an earlier key of its dictionary, whose first entry is at first. A search from there
+// finds the key itself at the latest, and an equal one before it.
 fn key_used(s: &[u8], first: usize, start: usize, end: usize) -> bool
     requires { ⌜ (start ≤ end) × (end ≤ length (now s)) ⌝ }
     ensures { λ r. ⌜ r ≡ usedAt (now (s .entry)) first (part (now (s .entry)) start end) end ⌝ }
@@ -46,7 +47,10 @@ fn key_above(s: &[u8], seen: Seen, at: usize, start: usize, end: usize) -> bool
         return true;
     }
     match string(s, greatest) {
-        Text::Bytes { start: a, end: e } => less(&s[a..e], &s[start..end]),
+        Text::Bytes {
+            start: from,
+            end: to,
+        } => less(&s[from..to], &s[start..end]),
         Text::Fault(_) => false,
     }
 }

@@ -4,23 +4,26 @@ ghost use Prim.Native.Nat.{_+_, _-_, _*_, _^_, min};
 ghost use Rattle.bencode.specs.Numeral.{digitsAt, numeralAt, capped};
 use super::bytes::byte_at;
 
-// A decimal numeral: the offset after its last digit, and its number, at most u64::MAX.
+// A decimal numeral: the offset after its last digit, and its number, at most LARGEST.
 pub struct Decimal {
     pub end: usize,
     pub number: u64,
 }
 
-// The number with one digit more, or u64::MAX where that is too large.
+// The largest number that is told apart from larger ones.
+const LARGEST: u64 = 18446744073709551615;
+
+// The number with one digit more, or LARGEST where that is too large.
 fn extended(number: u64, digit: u8) -> u64
     ensures { λ r. ⌜ r ≡ min (number * 10 + digit) (2 ^ 64 - 1) ⌝ }
 {
     let d = digit as u64;
     if 1844674407370955161 < number {
-        return 18446744073709551615;
+        return LARGEST;
     }
     let tens = number * 10;
-    if 18446744073709551615 - tens < d {
-        18446744073709551615
+    if LARGEST - tens < d {
+        LARGEST
     } else {
         tens + d
     }

@@ -1,6 +1,6 @@
 // Which keys a dictionary may have. Every walk is handed its profile, and only the key rule looks at it.
 pub enum Profile {
-    // Keys in any order, none twice: what frames are read with.
+    // Keys in any order, none twice.
     Loose,
     // Keys that rise strictly as raw bytes.
     Strict,

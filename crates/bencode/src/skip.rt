@@ -1,12 +1,22 @@
-// Where a value ends that has been walked before: nothing is checked again, and nesting is only counted.
+// Where a value ends that has been walked before: keys and depth are not checked again, nesting is only counted.
 ghost use mathlib.Core.Path.{_≡_};
 ghost use Prim.Native.Nat.{_≤_};
-ghost use Rattle.bencode.specs.Skip.{skipFrom, skipValue, skipRest};
+ghost use Rattle.bencode.specs.Skip.{opens, skipFrom, skipValue, skipRest};
 use super::bytes::byte_at;
 use super::fault::Walk;
 use super::scalar::scalar_end;
 
-// Skips on from an offset with so many lists and dictionaries open, or stops at a byte that cannot stand there.
+// Does a byte open a list or a dictionary.
+fn opens(b: u8) -> bool
+    ensures { λ r. ⌜ r ≡ opens b ⌝ }
+{
+    if b == b'l' {
+        return true;
+    }
+    b == b'd'
+}
+
+// Skips on from an offset with so many lists and dictionaries open. It ends early where no value stands.
 fn skip_from(s: &[u8], from: usize, levels: usize) -> usize
     requires { ⌜ levels ≤ 1 ⌝ }
     ensures { λ r. ⌜ r ≡ skipFrom (now (s .entry)) from levels ⌝ }
@@ -15,10 +25,7 @@ fn skip_from(s: &[u8], from: usize, levels: usize) -> usize
     let mut depth: usize = levels;
     loop {
         let b = byte_at(s, at);
-        if b == b'l' {
-            depth += 1;
-            at += 1;
-        } else if b == b'd' {
+        if opens(b) {
             depth += 1;
             at += 1;
         } else if b == b'e' {

@@ -6,7 +6,7 @@ use super::fault::Fault;
 use super::fault::Walk;
 use super::numeral::numeral;
 
-// What stands where a string is wanted: the start and the end of its text, or the fault.
+// What stands where a string is expected: the start and the end of its text, or the fault.
 pub enum Text {
     Bytes { start: usize, end: usize },
     Fault(Fault),

@@ -87,9 +87,9 @@ fn dictionary(s: &[u8], from: usize, depth: Depth, profile: Profile) -> Walk
                     return Walk::Fault(Fault { code, offset: at });
                 }
                 KeyCheck::Allowed(next) => match value(s, end, depth, profile) {
-                    Walk::End(e) => {
+                    Walk::End(after) => {
                         seen = next;
-                        at = e;
+                        at = after;
                     }
                     Walk::Fault(f) => {
                         return Walk::Fault(f);

@@ -3,7 +3,7 @@
 use mathlib.Core.Path.{sym, ap, _∙_}
 use Rattle.bencode.specs.declared.profile.Profile.{Profile}
 use Rattle.bencode.specs.Walk.{payloadAt}
-use Rattle.bench_abi.specs.Walked.{codeOf}
+use Rattle.bencode.specs.Fault.{codeOf}
 use borrow.Author.Needs.{needs}
 use Rattle.bench_abi.proofs.payload_code.Statement.{statement}
 use Rattle.bench_abi.proofs.payload_code.Tie as tie

@@ -19,14 +19,14 @@ returns c =
 string-requires : tie.Need-string-requires
 string-requires c κs = search needs
 
-enum-known-a : tie.Need-enum-known-a
-enum-known-a c = search needs
+enum-known-from : tie.Need-enum-known-from
+enum-known-from c = search needs
 
 sub-less : tie.Need-sub-less
 sub-less c =
     let a = c .before .before .before .before .before .before .args in
     let s = a .s .now in
-    let k = c .before .a .given in
+    let k = c .before .from .given in
     let w = string-whole-inv s (a .seen .greatest) (k .0 .0) (k .0 .1 .0) (sym (c .before .before .before .string .ensures) ∙ k .1) in
     omega arith
 
@@ -34,7 +34,7 @@ part-less-start : tie.Need-part-less-start
 part-less-start c =
     let a = c .before .before .before .before .before .before .args in
     let s = a .s .now in
-    let k = c .before .a .given in
+    let k = c .before .from .given in
     let w = string-whole-inv s (a .seen .greatest) (k .0 .0) (k .0 .1 .0) (sym (c .before .before .before .string .ensures) ∙ k .1) in
     omega arith
 
@@ -42,7 +42,7 @@ part-less-end : tie.Need-part-less-end
 part-less-end c =
     let a = c .before .before .before .before .before .before .args in
     let s = a .s .now in
-    let k = c .before .a .given in
+    let k = c .before .from .given in
     let w = string-whole-inv s (a .seen .greatest) (k .0 .0) (k .0 .1 .0) (sym (c .before .before .before .string .ensures) ∙ k .1) in
     omega arith
 
@@ -65,7 +65,7 @@ returns-2 : tie.Need-returns-2
 returns-2 c =
     let a = c .before .before .before .before .before .before .before .before .before .args in
     let s = a .s .now in
-    let k = c .before .before .before .before .a .given in
+    let k = c .before .before .before .before .from .given in
     c .less .ensures ∙ above-text s (a .seen) (a .at) (part s (a .start) (a .end)) (Text.Bytes (k .0 .0) (k .0 .1 .0)) (c .before .before .before .before .before .before .before .if1 .left) (sym (c .before .before .before .before .before .before .string .ensures) ∙ k .1)
 
 returns-3 : tie.Need-returns-3
@@ -80,7 +80,7 @@ key-above-spec =
     (tie.spec
     returns
     string-requires
-    enum-known-a
+    enum-known-from
     sub-less
     part-less-start
     part-less-end

@@ -1,14 +1,15 @@
 -- `bencode::skip::skip_from` meets its contract: skipping on from the present offset comes to the same. No more is open than bytes were passed, so the depth fits.
 -- Assumes nothing.
 use Prim.Native.Nat.{_≤_, _-_, _+_}
-use mathlib.Core.Path.{_≡_, refl, sym, _∙_}
+use mathlib.Core.Path.{_≡_, refl, sym, ap, _∙_}
 use native.Mathlib.Omega.{arith}
 use borrow.Author.Needs.{needs}
 use lib.ListN.{length}
-use Rattle.bencode.specs.Skip.{skipFrom}
+use Rattle.bencode.specs.Bytes.{byteAt}
+use Rattle.bencode.specs.Skip.{opens, skipFrom}
 use Rattle.bencode.proofs.NumeralLaws.{inside}
 use Rattle.bencode.proofs.Ends.{scalar-ends}
-use Rattle.bencode.proofs.SkipLaws.{skip-list, skip-dictionary, skip-last, skip-close, skip-fault, skip-scalar-last, skip-scalar}
+use Rattle.bencode.proofs.SkipLaws.{opens-some, skip-open, skip-last, skip-close, skip-fault, skip-scalar-last, skip-scalar}
 use Rattle.bencode.proofs.skip.skip_from.Statement.{statement}
 use Rattle.bencode.proofs.skip.skip_from.Tie as tie
 
@@ -24,64 +25,42 @@ loop-holds c = (omega arith, refl)
 byte-at-requires : tie.Need-byte-at-requires Inv-loop μ-loop
 byte-at-requires c κs = tt
 
+opens-requires : tie.Need-opens-requires Inv-loop μ-loop
+opens-requires c κs = tt
+
 add-depth : tie.Need-add-depth Inv-loop μ-loop
 add-depth c =
-    let s = c .before .before .before .before .args .s .now in
-    let l = c .before .before .loop in
-    let b = c .before .byte-at .ensures in
-    omega (arith, inside s (l .at) (omega (arith, b)))
+    let s = c .before .before .before .before .before .args .s .now in
+    let l = c .before .before .before .loop in
+    let b = c .before .before .byte-at .ensures in
+    let some = opens-some (byteAt s (l .at)) (sym (c .before .opens .ensures ∙ ap opens b) ∙ c .if1 .taken) in
+    omega (arith, inside s (l .at) (omega arith))
 
 add-at : tie.Need-add-at Inv-loop μ-loop
 add-at c =
-    let s = c .before .before .before .before .args .s .now in
-    let l = c .before .before .loop in
-    let b = c .before .byte-at .ensures in
-    omega (arith, inside s (l .at) (omega (arith, b)))
+    let s = c .before .before .before .before .before .args .s .now in
+    let l = c .before .before .before .loop in
+    let b = c .before .before .byte-at .ensures in
+    let some = opens-some (byteAt s (l .at)) (sym (c .before .opens .ensures ∙ ap opens b) ∙ c .if1 .taken) in
+    omega (arith, inside s (l .at) (omega arith))
 
 loop-less : tie.Need-loop-less Inv-loop μ-loop
 loop-less c =
-    let s = c .before .before .before .before .args .s .now in
-    let l = c .before .before .loop in
-    let b = c .before .byte-at .ensures in
-    omega (arith, inside s (l .at) (omega (arith, b)))
+    let s = c .before .before .before .before .before .args .s .now in
+    let l = c .before .before .before .loop in
+    let b = c .before .before .byte-at .ensures in
+    let some = opens-some (byteAt s (l .at)) (sym (c .before .opens .ensures ∙ ap opens b) ∙ c .if1 .taken) in
+    omega (arith, inside s (l .at) (omega arith))
 
 loop-again : tie.Need-loop-again Inv-loop μ-loop
 loop-again c =
-    let s = c .before .before .before .before .args .s .now in
-    let l = c .before .before .loop in
-    let b = c .before .byte-at .ensures in
-    (omega arith, skip-list s (l .at) (l .depth) (sym b ∙ c .if1 .taken) ∙ l .inv .1)
-
-add-depth-2 : tie.Need-add-depth-2 Inv-loop μ-loop
-add-depth-2 c =
     let s = c .before .before .before .before .before .args .s .now in
     let l = c .before .before .before .loop in
     let b = c .before .before .byte-at .ensures in
-    omega (arith, inside s (l .at) (omega (arith, b)))
+    (omega arith, skip-open s (l .at) (l .depth) (sym (c .before .opens .ensures ∙ ap opens b) ∙ c .if1 .taken) ∙ l .inv .1)
 
 add-at-2 : tie.Need-add-at-2 Inv-loop μ-loop
 add-at-2 c =
-    let s = c .before .before .before .before .before .args .s .now in
-    let l = c .before .before .before .loop in
-    let b = c .before .before .byte-at .ensures in
-    omega (arith, inside s (l .at) (omega (arith, b)))
-
-loop-less-2 : tie.Need-loop-less-2 Inv-loop μ-loop
-loop-less-2 c =
-    let s = c .before .before .before .before .before .args .s .now in
-    let l = c .before .before .before .loop in
-    let b = c .before .before .byte-at .ensures in
-    omega (arith, inside s (l .at) (omega (arith, b)))
-
-loop-again-2 : tie.Need-loop-again-2 Inv-loop μ-loop
-loop-again-2 c =
-    let s = c .before .before .before .before .before .args .s .now in
-    let l = c .before .before .before .loop in
-    let b = c .before .before .byte-at .ensures in
-    (omega arith, skip-dictionary s (l .at) (l .depth) (sym b ∙ c .if2 .taken) ∙ l .inv .1)
-
-add-at-3 : tie.Need-add-at-3 Inv-loop μ-loop
-add-at-3 c =
     let s = c .before .before .before .before .before .before .args .s .now in
     let l = c .before .before .before .before .loop in
     let b = c .before .before .before .byte-at .ensures in
@@ -92,24 +71,24 @@ returns c =
     let s = c .before .before .before .before .before .before .before .args .s .now in
     let l = c .before .before .before .before .before .loop in
     let b = c .before .before .before .before .byte-at .ensures in
-    skip-last s (l .at) (l .depth) (sym b ∙ c .before .if3 .taken) (c .if4 .taken) ∙ l .inv .1
+    skip-last s (l .at) (l .depth) (sym b ∙ c .before .if2 .taken) (c .if3 .taken) ∙ l .inv .1
 
 sub-depth : tie.Need-sub-depth Inv-loop μ-loop
 sub-depth c = omega arith
 
-loop-less-3 : tie.Need-loop-less-3 Inv-loop μ-loop
-loop-less-3 c =
+loop-less-2 : tie.Need-loop-less-2 Inv-loop μ-loop
+loop-less-2 c =
     let s = c .before .before .before .before .before .before .before .args .s .now in
     let l = c .before .before .before .before .before .loop in
     let b = c .before .before .before .before .byte-at .ensures in
     omega (arith, inside s (l .at) (omega (arith, b)))
 
-loop-again-3 : tie.Need-loop-again-3 Inv-loop μ-loop
-loop-again-3 c =
+loop-again-2 : tie.Need-loop-again-2 Inv-loop μ-loop
+loop-again-2 c =
     let s = c .before .before .before .before .before .before .before .args .s .now in
     let l = c .before .before .before .before .before .loop in
     let b = c .before .before .before .before .byte-at .ensures in
-    (omega arith, skip-close s (l .at) (l .depth) (sym b ∙ c .before .if3 .taken) (c .if4 .left) ∙ l .inv .1)
+    (omega arith, skip-close s (l .at) (l .depth) (sym b ∙ c .before .if2 .taken) (c .if3 .left) ∙ l .inv .1)
 
 scalar-end-requires : tie.Need-scalar-end-requires Inv-loop μ-loop
 scalar-end-requires c κs = tt
@@ -125,7 +104,7 @@ returns-2 c =
     let s = c .before .before .before .before .before .before .before .before .before .args .s .now in
     let l = c .before .before .before .before .before .before .before .loop in
     let b = c .before .before .before .before .before .before .byte-at .ensures in
-    skip-fault s (l .at) (l .depth) (λ e. c .before .before .before .before .before .if1 .left (b ∙ e)) (λ e. c .before .before .before .before .if2 .left (b ∙ e)) (λ e. c .before .before .before .if3 .left (b ∙ e)) (c .enum-told .given .0 .0) (sym (c .before .before .scalar-end .ensures) ∙ c .enum-told .given .1) ∙ l .inv .1
+    skip-fault s (l .at) (l .depth) (sym (c .before .before .before .before .before .opens .ensures ∙ ap opens b) ∙ c .before .before .before .before .if1 .left) (λ e. c .before .before .before .if2 .left (b ∙ e)) (c .enum-told .given .0 .0) (sym (c .before .before .scalar-end .ensures) ∙ c .enum-told .given .1) ∙ l .inv .1
 
 returns-3 : tie.Need-returns-3 Inv-loop μ-loop
 returns-3 c =
@@ -134,10 +113,10 @@ returns-3 c =
     let b = c .before .before .before .before .before .before .before .before .byte-at .ensures in
     let e = c .before .before .end .given in
     let x = sym (c .before .before .before .before .scalar-end .ensures) ∙ e .1 in
-    skip-scalar-last s (l .at) (l .depth) (λ e. c .before .before .before .before .before .before .before .if1 .left (b ∙ e)) (λ e. c .before .before .before .before .before .before .if2 .left (b ∙ e)) (λ e. c .before .before .before .before .before .if3 .left (b ∙ e)) (e .0 .0) x (c .if5 .taken) ∙ l .inv .1
+    skip-scalar-last s (l .at) (l .depth) (sym (c .before .before .before .before .before .before .before .opens .ensures ∙ ap opens b) ∙ c .before .before .before .before .before .before .if1 .left) (λ e. c .before .before .before .before .before .if2 .left (b ∙ e)) (e .0 .0) x (c .if4 .taken) ∙ l .inv .1
 
-loop-less-4 : tie.Need-loop-less-4 Inv-loop μ-loop
-loop-less-4 c =
+loop-less-3 : tie.Need-loop-less-3 Inv-loop μ-loop
+loop-less-3 c =
     let s = c .before .before .before .before .before .before .before .before .before .before .before .args .s .now in
     let l = c .before .before .before .before .before .before .before .before .before .loop in
     let b = c .before .before .before .before .before .before .before .before .byte-at .ensures in
@@ -146,15 +125,15 @@ loop-less-4 c =
     let h = scalar-ends s (l .at) (e .0 .0) x in
     omega arith
 
-loop-again-4 : tie.Need-loop-again-4 Inv-loop μ-loop
-loop-again-4 c =
+loop-again-3 : tie.Need-loop-again-3 Inv-loop μ-loop
+loop-again-3 c =
     let s = c .before .before .before .before .before .before .before .before .before .before .before .args .s .now in
     let l = c .before .before .before .before .before .before .before .before .before .loop in
     let b = c .before .before .before .before .before .before .before .before .byte-at .ensures in
     let e = c .before .before .end .given in
     let x = sym (c .before .before .before .before .scalar-end .ensures) ∙ e .1 in
     let h = scalar-ends s (l .at) (e .0 .0) x in
-    (omega arith, skip-scalar s (l .at) (l .depth) (λ e. c .before .before .before .before .before .before .before .if1 .left (b ∙ e)) (λ e. c .before .before .before .before .before .before .if2 .left (b ∙ e)) (λ e. c .before .before .before .before .before .if3 .left (b ∙ e)) (e .0 .0) x (c .if5 .left) ∙ l .inv .1)
+    (omega arith, skip-scalar s (l .at) (l .depth) (sym (c .before .before .before .before .before .before .before .opens .ensures ∙ ap opens b) ∙ c .before .before .before .before .before .before .if1 .left) (λ e. c .before .before .before .before .before .if2 .left (b ∙ e)) (e .0 .0) x (c .if4 .left) ∙ l .inv .1)
 
 pub skip-from-spec : {M : Type 1} → statement M
 skip-from-spec =
@@ -164,23 +143,20 @@ skip-from-spec =
     μ-loop
     loop-holds
     byte-at-requires
+    opens-requires
     add-depth
     add-at
     loop-less
     loop-again
-    add-depth-2
     add-at-2
-    loop-less-2
-    loop-again-2
-    add-at-3
     returns
     sub-depth
-    loop-less-3
-    loop-again-3
+    loop-less-2
+    loop-again-2
     scalar-end-requires
     enum-known-end
     enum-told
     returns-2
     returns-3
-    loop-less-4
-    loop-again-4)
+    loop-less-3
+    loop-again-3)

@@ -150,8 +150,8 @@ dictionary-enum-known-next t c = search needs
 dictionary-value-requires : (t : ℕ) → dictionary-lts.Need-value-requires (dictionary-calls t) (dictionary-at t) dictionary.Post dictionary-Inv-loop dictionary-μ-loop
 dictionary-value-requires t c κs = (omega (arith, c .before .before .before .before .before .before .before .before .before .before .before .before .pre .0), c .before .before .before .before .before .before .before .before .before .before .before .before .pre .1)
 
-dictionary-enum-known-e : (t : ℕ) → dictionary-lts.Need-enum-known-e (dictionary-calls t) (dictionary-at t) dictionary.Post dictionary-Inv-loop dictionary-μ-loop
-dictionary-enum-known-e t c = search needs
+dictionary-enum-known-after : (t : ℕ) → dictionary-lts.Need-enum-known-after (dictionary-calls t) (dictionary-at t) dictionary.Post dictionary-Inv-loop dictionary-μ-loop
+dictionary-enum-known-after t c = search needs
 
 dictionary-loop-less : (t : ℕ) → dictionary-lts.Need-loop-less (dictionary-calls t) (dictionary-at t) dictionary.Post dictionary-Inv-loop dictionary-μ-loop
 dictionary-loop-less t c =
@@ -161,7 +161,7 @@ dictionary-loop-less t c =
     let k = c .before .before .before .before .before .before .before .before .before .start .given in
     let text : stringAt s (l .at) ≡ Text.Bytes (k .0 .0) (k .0 .1 .0) = sym (c .before .before .before .before .before .before .before .before .before .before .before .string .ensures) ∙ k .1 in
     let w = string-whole-inv s (l .at) (k .0 .0) (k .0 .1 .0) text in
-    omega (arith, value-ends (a .profile) (levelsLeft (a .depth)) s (k .0 .1 .0) (c .before .e .given .0 .0) (sym (c .before .before .before .value .ensures) ∙ c .before .e .given .1))
+    omega (arith, value-ends (a .profile) (levelsLeft (a .depth)) s (k .0 .1 .0) (c .before .after .given .0 .0) (sym (c .before .before .before .value .ensures) ∙ c .before .after .given .1))
 
 dictionary-loop-again : (t : ℕ) → dictionary-lts.Need-loop-again (dictionary-calls t) (dictionary-at t) dictionary.Post dictionary-Inv-loop dictionary-μ-loop
 dictionary-loop-again t c =
@@ -171,10 +171,10 @@ dictionary-loop-again t c =
     let k = c .before .before .before .before .before .before .before .before .before .start .given in
     let text : stringAt s (l .at) ≡ Text.Bytes (k .0 .0) (k .0 .1 .0) = sym (c .before .before .before .before .before .before .before .before .before .before .before .string .ensures) ∙ k .1 in
     let ok = key-allowed (a .profile) (levelsLeft (a .depth)) s (l .seen) (l .at) (l .inv .0) (l .inv .1) (k .0 .0) (k .0 .1 .0) text (c .before .before .before .before .before .next .given .0 .0) (sym (c .before .before .before .before .before .before .before .check-key .ensures) ∙ c .before .before .before .before .before .next .given .1) in
-    let value = sym (c .before .before .before .value .ensures) ∙ c .before .e .given .1 in (
+    let value = sym (c .before .before .before .value .ensures) ∙ c .before .after .given .1 in (
       part s (k .0 .0) (k .0 .1 .0) ∷ l .inv .0,
-      ok .1 (c .before .e .given .0 .0) value,
-      dictionary-more (a .profile) (levelsLeft (a .depth)) s (l .at) (l .inv .0) (λ e. c .before .before .before .before .before .before .before .before .before .before .before .before .if1 .left (c .before .before .before .before .before .before .before .before .before .before .before .before .before .byte-at .ensures ∙ e)) (k .0 .0) (k .0 .1 .0) text (ok .0) (c .before .e .given .0 .0) value ∙ l .inv .2,
+      ok .1 (c .before .after .given .0 .0) value,
+      dictionary-more (a .profile) (levelsLeft (a .depth)) s (l .at) (l .inv .0) (λ e. c .before .before .before .before .before .before .before .before .before .before .before .before .if1 .left (c .before .before .before .before .before .before .before .before .before .before .before .before .before .byte-at .ensures ∙ e)) (k .0 .0) (k .0 .1 .0) text (ok .0) (c .before .after .given .0 .0) value ∙ l .inv .2,
     )
 
 dictionary-enum-known-f-2 : (t : ℕ) → dictionary-lts.Need-enum-known-f-2 (dictionary-calls t) (dictionary-at t) dictionary.Post dictionary-Inv-loop dictionary-μ-loop
@@ -343,7 +343,7 @@ pub +dictionary+list+value-spec : {M : Type 1} → statement M
     (dictionary-returns-3 t)
     (dictionary-enum-known-next t)
     (dictionary-value-requires t)
-    (dictionary-enum-known-e t)
+    (dictionary-enum-known-after t)
     (dictionary-loop-less t)
     (dictionary-loop-again t)
     (dictionary-enum-known-f-2 t)
