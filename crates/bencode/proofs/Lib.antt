@@ -1,6 +1,7 @@
 pub mod LoopLaws
 pub mod NumeralLaws
 pub mod StringLaws
+pub mod SignedLaws
 pub mod IntegerLaws
 pub mod Ends
 pub mod DepthLaws

@@ -32,7 +32,7 @@ use Rattle.bencode.proofs.ScalarReads.{string-reads, integer-reads}
 use Rattle.bencode.proofs.Complete.{value-no-e, value-reads, list-reads, dictionary-reads}
 
 -- the first byte of a value, with nothing after it
-starts : (v : Value) (s : List ℕ) (at end : ℕ) → Begins s at (encode v) end → FirstByte v (byteAt s at)
+pub starts : (v : Value) (s : List ℕ) (at end : ℕ) → Begins s at (encode v) end → FirstByte v (byteAt s at)
 starts v s at end b = first-byte s v at end [] (subst (λ (l : List ℕ). Begins s at l end) (sym (append-nil (encode v))) b)
 
 no-integer : (s : List ℕ) (at : ℕ) → (byteAt s at ≡ 105 → ⊥) → (f : Fault) × (integerAt s at ≡ Number.Fault f)

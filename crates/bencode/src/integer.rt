@@ -1,7 +1,7 @@
 // Integers: `i`, a sign if it is negative, decimal digits and `e`, in the range of 64 bits.
 ghost use mathlib.Core.Path.{_≡_};
 ghost use Prim.Native.Nat.{_^_, _≤_};
-ghost use lib.IntN.{pos, negℤ};
+ghost use lib.IntN.{pos, negℤ, natAbs};
 ghost use Rattle.bencode.specs.Integer.{signed, inRange, integerFrom, integerAt, numberEnd};
 use super::bytes::byte_at;
 use super::fault::Fault;
@@ -113,4 +113,11 @@ pub fn integer_end(s: &[u8], at: usize) -> Walk
         Number::Integer { value: _, end } => Walk::End(end),
         Number::Fault(f) => Walk::Fault(f),
     }
+}
+
+// The distance of an integer from zero.
+pub fn magnitude(v: i64) -> u64
+    ensures { λ r. ⌜ r ≡ natAbs v ⌝ }
+{
+    if v < 0 { (!v) as u64 + 1 } else { v as u64 }
 }

@@ -7,9 +7,9 @@ use cases::print;
 use cases::print_number;
 
 fn print_line(code: u8, offset: usize) {
-    print_number(code as usize);
+    print_number(code as u64);
     print(b" ");
-    print_number(offset);
+    print_number(offset as u64);
     print(b"\n");
 }
 
@@ -33,26 +33,13 @@ fn answer_case(operation: u8, payload: &[u8]) -> bool {
     false
 }
 
-// What comes of a case.
-enum Outcome {
-    Answered,
-    Faulty,
-    Ended,
-}
-
-fn run_case(head: &mut [u8; 5], body: &mut [u8]) -> Outcome {
+// Reads and answers a case, and says whether to go on.
+fn run_case(head: &mut [u8; 5], body: &mut [u8]) -> bool {
     match cases::next_case(head, body) {
         Case::Body { operation, length } => {
-            if body.len() < length {
-                return Outcome::Faulty;
-            }
-            if answer_case(operation, &body[..length]) {
-                return Outcome::Answered;
-            }
-            Outcome::Faulty
+            cases::answered(answer_case(operation, &body[..length]))
         }
-        Case::Cut => Outcome::Faulty,
-        Case::End => Outcome::Ended,
+        Case::End => false,
     }
 }
 
@@ -60,19 +47,11 @@ fn main() {
     let mut head = [0u8; 5];
     let mut space = [0u8; 131072];
     let body: &mut [u8] = &mut space;
-    let mut answered: u32 = 0;
-    while answered < 4000000000 {
-        match run_case(&mut head, body) {
-            Outcome::Answered => {
-                answered += 1;
-            }
-            Outcome::Faulty => {
-                print(b"case fault\n");
-                return;
-            }
-            Outcome::Ended => {
-                return;
-            }
+    let mut left: u32 = 4000000000;
+    while 0 < left {
+        left -= 1;
+        if !run_case(&mut head, body) {
+            return;
         }
     }
 }

@@ -1,13 +1,15 @@
--- `cases::fill` is safe.
+-- `cases::fill` meets its contract.
 -- Assumes nothing.
+use mathlib.Core.Path.{sym, subst}
 use native.Mathlib.Omega.{arith}
+use lib.Dec.{T}
 use lib.ListN.{length-take}
 use borrow.Author.Needs.{needs}
 use Rattle.cases.proofs.fill.Statement.{statement}
 use Rattle.cases.proofs.fill.Tie as tie
 
 returns : tie.Need-returns
-returns c = search needs
+returns c = λ e. absurd (subst T (sym e) tt)
 
 slice-relend-prefix-read-full : tie.Need-slice-relend-prefix-read-full
 slice-relend-prefix-read-full c = search needs

@@ -1,0 +1,65 @@
+-- Laws of the listed keys. The table of the source is the list of the document: one computation, at `row_at`.
+-- Assumes nothing.
+use Prim.Native.Nat.{ℕ, zero, suc, _-_, _≤_, _<_}
+use mathlib.Core.Path.{_≡_, refl, ap, _∙_}
+use mathlib.Core.Bool.{true, false, cond}
+use mathlib.Core.List.{List, [], _∷_, map}
+use native.Mathlib.Nat.{le-of-suc-le-suc, not-suc-le-zero}
+use native.Mathlib.Omega.{arith}
+use lib.ListN.{length, getD, drop, take, replicate, List·getD-map, List·getD-eq-default, length-append, drop-of-length-le}
+use lib.Seq.{drop-cons, take-at}
+use Rattle.bencode.specs.Bytes.{same}
+use Rattle.ipc.specs.declared.keys.KeyRow.{KeyRow}
+use Rattle.ipc.specs.Ascii.{ascii}
+use Rattle.ipc.specs.Keys.{listed, unlisted, rowOf, rowAt, nameAt, numberFrom, keyNumber, listedAt}
+
+-- what stands past the end does not matter inside
+inside-any : {A : Type 0} (l : List A) (k : ℕ) (d e : A) → k < length l → getD l k d ≡ getD l k e
+inside-any [] k d e h = absurd (not-suc-le-zero h)
+inside-any (x ∷ l) zero d e h = refl
+inside-any (x ∷ l) (suc k) d e h = inside-any l k d e (le-of-suc-le-suc h)
+
+pub row-right : (d : KeyRow) (k : ℕ) → k < 20 → getD (map rowOf listed) k d ≡ rowAt k
+unfolding listed rowAt
+row-right d k h = inside-any (map rowOf listed) k d (rowOf unlisted) h ∙ List·getD-map rowOf listed k unlisted
+
+-- the bytes of a row
+pub row-name : (k : ℕ) (row : KeyRow) → row ≡ rowAt k → take (row .length) (row .text) ≡ nameAt k
+unfolding rowAt nameAt
+row-name k row e =
+    let n = ascii (getD listed k unlisted .name) in
+    ap (λ (r : KeyRow). take (r .length) (r .text)) e ∙ take-at n (replicate (14 - length n) 0) (length n) refl
+
+pub row-fits : (k : ℕ) (row : KeyRow) → row ≡ rowAt k → row .length ≤ length (row .text)
+unfolding rowAt
+row-fits k row e =
+    let n = ascii (getD listed k unlisted .name) in
+    rw e (omega (arith, length-append n (replicate (14 - length n) 0)))
+
+module _ (text : List ℕ) (k : ℕ) where
+  number-step : k < 20 → numberFrom (suc k) (drop k listed) text ≡ cond (same (nameAt k) text) (suc k) (numberFrom (suc (suc k)) (drop (suc k) listed) text)
+  unfolding listed numberFrom nameAt
+  number-step h = rw (drop-cons listed k unlisted h) refl
+
+  pub number-here : k < 20 → same (nameAt k) text ≡ true → suc k ≡ numberFrom (suc k) (drop k listed) text
+  number-here h e = rw (number-step h, e) refl
+
+  pub number-next : k < 20 → same (nameAt k) text ≡ false → numberFrom (suc (suc k)) (drop (suc k) listed) text ≡ numberFrom (suc k) (drop k listed) text
+  number-next h e = rw (number-step h, e) refl
+
+  pub number-none : 20 ≤ k → 0 ≡ numberFrom (suc k) (drop k listed) text
+  unfolding listed numberFrom
+  number-none h = rw (drop-of-length-le listed {i = k} h) refl
+
+pub number-all : (text : List ℕ) → numberFrom 1 (drop 0 listed) text ≡ keyNumber text
+unfolding keyNumber
+number-all text = refl
+
+-- the key of a number that is not 0
+pub listed-at : (n : ℕ) → (n ≡ 0 → ⊥) → listedAt n ≡ getD listed (n - 1) unlisted
+listed-at zero h = absurd (h refl)
+listed-at (suc k) h = ap (λ (i : ℕ). getD listed i unlisted) (let e : k ≡ suc k - 1 = omega arith in e)
+
+pub listed-past : (n : ℕ) → (n ≡ 0 → ⊥) → 20 ≤ n - 1 → listedAt n ≡ unlisted
+unfolding listed
+listed-past n h l = listed-at n h ∙ List·getD-eq-default listed unlisted {n = n - 1} l

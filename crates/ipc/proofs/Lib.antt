@@ -1,0 +1,12 @@
+pub mod Ranges
+pub mod HeaderLaws
+pub mod KeyLaws
+pub mod FormatLaws
+pub mod MessageLaws
+pub mod HandshakeLaws
+pub mod FrameLaws
+pub mod Means
+pub mod Messages
+pub mod Handshakes
+pub mod Accepts
+pub mod Tried

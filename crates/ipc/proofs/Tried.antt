@@ -1,0 +1,27 @@
+-- The frames of the proved set are answered as the document has it: antt computes them.
+-- Assumes nothing.
+use mathlib.Core.Path.{refl}
+use Rattle.bencode.specs.Numeral.{digits, numeralAt}
+use Rattle.bencode.specs.String.{stringAt}
+use Rattle.bencode.specs.Integer.{integerAt, integerFrom}
+use Rattle.bencode.specs.Bytes.{same, less}
+use Rattle.bencode.specs.Key.{isUsed, isAbove, keyFault}
+use Rattle.bencode.specs.Scalar.{scalarAt}
+use Rattle.bencode.specs.Loop.{repeat}
+use Rattle.bencode.specs.Skip.{skipFrom}
+use Rattle.bencode.specs.Item.{itemAt}
+use Rattle.bencode.specs.Walk.{listFrom, dictionaryFrom, valueAt, payloadAt}
+use Rattle.ipc.specs.Ascii.{ascii}
+use Rattle.ipc.specs.Header.{hexValue, headerIn, readHeader, sized}
+use Rattle.ipc.specs.Ids.{tagOf, torrentIdOf}
+use Rattle.ipc.specs.Keys.{listed, numberFrom, keyNumber, classOf}
+use Rattle.bencode.specs.Entry.{entryAt}
+use Rattle.ipc.specs.Format.{idEnd, torrentEnd, itemEnd, listPart, formatted}
+use Rattle.ipc.specs.Message.{thirdAt, messageAnswer}
+use Rattle.ipc.specs.Handshake.{rangeOf, integerOf, versionsAt, dictionaryVersions, handshakeAnswer}
+use Rattle.ipc.specs.Frame.{payloadAnswer, lengthAnswer, readFrame}
+use Rattle.ipc.specs.Tries.{tries, FramesTried}
+
+pub frames-tried : FramesTried
+unfolding tries skipFrom itemAt readFrame lengthAnswer payloadAnswer ascii hexValue headerIn readHeader sized tagOf torrentIdOf listed numberFrom keyNumber classOf entryAt idEnd torrentEnd itemEnd listPart formatted thirdAt messageAnswer rangeOf integerOf versionsAt dictionaryVersions handshakeAnswer payloadAt valueAt scalarAt integerAt integerFrom numeralAt digits stringAt listFrom dictionaryFrom repeat keyFault isUsed isAbove same less
+frames-tried = refl

@@ -1,0 +1,12 @@
+pub mod Ascii
+pub mod Header
+pub mod Ids
+pub mod Keys
+pub mod Answer
+pub mod Format
+pub mod Message
+pub mod Handshake
+pub mod Frame
+pub mod Meaning
+pub mod Tries
+pub mod Demands

@@ -1,0 +1,159 @@
+-- What a bencoded value means: the answer to it, as document 01 has it, with no word of how it is read.
+-- Assumes nothing.
+use Prim.Native.Nat.{ℕ, _+_, _-_}
+use mathlib.Core.Bool.{Bool, true, false, cond, _&&_}
+use mathlib.Core.List.{List}
+use lib.IntN.{ℤ}
+use lib.ListN.{length}
+use Rattle.bencode.specs.Value.{Value, integer, string, list, dictionary, Values, no-value, value, encodeString, encode, Found, found, missing, lookup}
+use Rattle.ipc.specs.declared.keys.Class.{Class}
+use Rattle.ipc.specs.declared.ids.OptionalTag.{OptionalTag}
+use Rattle.ipc.specs.declared.format.Checked.{Checked}
+use Rattle.ipc.specs.declared.reading.Value.{Value as Held}
+use Rattle.ipc.specs.declared.versions.OptionalVersions.{OptionalVersions}
+use Rattle.ipc.specs.Answer.{Answer, refused, accepted, agreed, offFormat, tagNumber, contentOf}
+use Rattle.ipc.specs.Ascii.{ascii}
+use Rattle.ipc.specs.Header.{headerLength}
+use Rattle.ipc.specs.Ids.{largestId, within, tagOf}
+use Rattle.ipc.specs.Keys.{keyNumber, classOf}
+use Rattle.ipc.specs.Format.{largestPort}
+use Rattle.ipc.specs.Handshake.{rangeOf}
+
+-- is a value an integer that passes a test
+abbrev pub integerBy : (ℤ → Bool) → Value → Bool
+integerBy ok (integer z) = ok z
+integerBy ok (string text) = false
+integerBy ok (list vs) = false
+integerBy ok (dictionary es) = false
+
+abbrev pub isId : Value → Bool
+isId = integerBy (within 1 largestId)
+
+abbrev pub isText : Value → Bool
+isText (integer z) = false
+isText (string text) = true
+isText (list vs) = false
+isText (dictionary es) = false
+
+abbrev pub foundId : Found → Bool
+foundId (found v) = isId v
+foundId missing = false
+
+-- a torrent: a dictionary whose `id` is a torrent ID
+abbrev pub isTorrent : Value → Bool
+isTorrent (integer z) = false
+isTorrent (string text) = false
+isTorrent (list vs) = false
+isTorrent (dictionary es) = foundId (lookup (ascii "id") es)
+
+-- does every value of a list pass a test
+abbrev pub every : (Value → Bool) → Values → Bool
+every ok no-value = true
+every ok (value v vs) = ok v && every ok vs
+
+-- a value as the part of the frame that it is, where it stands at an offset of the payload
+abbrev pub wholeAt : ℕ → Value → Held
+wholeAt at x = Held.Part (headerLength + at) (length (encode x))
+
+-- an integer that passes a test
+abbrev pub asInteger : (ℤ → Bool) → Value → Checked
+asInteger ok (integer z) = cond (ok z) (Checked.Value (Held.Integer z)) Checked.Off
+asInteger ok (string text) = Checked.Off
+asInteger ok (list vs) = Checked.Off
+asInteger ok (dictionary es) = Checked.Off
+
+-- a string's text, which is the end of its encoding
+abbrev pub asText : ℕ → Value → Checked
+asText at (integer z) = Checked.Off
+asText at (string text) = Checked.Value (Held.Text (headerLength + ((at + length (encodeString text)) - length text)) (length text))
+asText at (list vs) = Checked.Off
+asText at (dictionary es) = Checked.Off
+
+-- a list of values that pass a test
+abbrev pub asList : (Value → Bool) → ℕ → Value → Checked
+asList ok at (integer z) = Checked.Off
+asList ok at (string text) = Checked.Off
+asList ok at (list vs) = cond (every ok vs) (Checked.Value (wholeAt at (list vs))) Checked.Off
+asList ok at (dictionary es) = Checked.Off
+
+-- what a message holds of a value at an offset, in a format
+abbrev pub judged : Class → ℕ → Value → Checked
+judged Class.Unlisted at x = Checked.Value (wholeAt at x)
+judged Class.Boolean at x = asInteger (within 0 1) x
+judged Class.Ignored at x = Checked.Value Held.Nothing
+judged Class.Text at x = asText at x
+judged Class.Integer at x = asInteger (λ z. true) x
+judged Class.TextList at x = asList isText at x
+judged Class.TorrentList at x = asList isTorrent at x
+judged Class.Port at x = asInteger (within 0 largestPort) x
+judged Class.IdList at x = asList isId at x
+
+abbrev pub answered : ℕ → ℕ → OptionalTag → Checked → Answer
+answered used k tag (Checked.Value v) = accepted used k (tagNumber tag) (contentOf v)
+answered used k tag Checked.Off = offFormat k (tagNumber tag)
+
+-- the answer to a message of a key, a value and a tag
+abbrev pub messageOf : ℕ → List ℕ → Value → OptionalTag → Answer
+messageOf used key x tag = answered used (keyNumber key) tag (judged (classOf (keyNumber key)) (1 + length (encodeString key)) x)
+
+-- the answer to a message with a third value z, which is a tag and the last, or not
+abbrev pub taggedOf : ℕ → List ℕ → Value → OptionalTag → Answer
+taggedOf used key x (OptionalTag.Tag t) = messageOf used key x (OptionalTag.Tag t)
+taggedOf used key x OptionalTag.None = refused 20 0
+
+abbrev pub lastOf : ℕ → List ℕ → Value → ℤ → Values → Answer
+lastOf used key x z no-value = taggedOf used key x (tagOf z)
+lastOf used key x z (value y vs) = refused 20 0
+
+abbrev pub thirdOf : ℕ → List ℕ → Value → Values → Answer
+thirdOf used key x no-value = messageOf used key x OptionalTag.None
+thirdOf used key x (value (integer z) vs) = lastOf used key x z vs
+thirdOf used key x (value (string text) vs) = refused 20 0
+thirdOf used key x (value (list us) vs) = refused 20 0
+thirdOf used key x (value (dictionary es) vs) = refused 20 0
+
+abbrev pub secondOf : ℕ → List ℕ → Values → Answer
+secondOf used key no-value = refused 20 0
+secondOf used key (value x vs) = thirdOf used key x vs
+
+-- the answer to a list: a key, a value and, if there is one, a tag
+abbrev pub listOf : ℕ → Values → Answer
+listOf used no-value = refused 20 0
+listOf used (value (integer z) vs) = refused 20 0
+listOf used (value (string key) vs) = secondOf used key vs
+listOf used (value (list us) vs) = refused 20 0
+listOf used (value (dictionary es) vs) = refused 20 0
+
+-- the versions between two values, which are integers
+abbrev pub rangeTo : ℤ → Found → OptionalVersions
+rangeTo low missing = OptionalVersions.None
+rangeTo low (found (integer high)) = rangeOf low high
+rangeTo low (found (string text)) = OptionalVersions.None
+rangeTo low (found (list vs)) = OptionalVersions.None
+rangeTo low (found (dictionary es)) = OptionalVersions.None
+
+abbrev pub rangeFrom : Found → Found → OptionalVersions
+rangeFrom missing high = OptionalVersions.None
+rangeFrom (found (integer low)) high = rangeTo low high
+rangeFrom (found (string text)) high = OptionalVersions.None
+rangeFrom (found (list vs)) high = OptionalVersions.None
+rangeFrom (found (dictionary es)) high = OptionalVersions.None
+
+-- the versions that `version` names: an integer, or a dictionary with `min` and `max`
+abbrev pub versionsOf : Found → OptionalVersions
+versionsOf missing = OptionalVersions.None
+versionsOf (found (integer z)) = rangeOf z z
+versionsOf (found (string text)) = OptionalVersions.None
+versionsOf (found (list vs)) = OptionalVersions.None
+versionsOf (found (dictionary es)) = rangeFrom (lookup (ascii "min") es) (lookup (ascii "max") es)
+
+abbrev pub greetingOf : ℕ → OptionalVersions → Answer
+greetingOf used (OptionalVersions.Range v) = agreed used (v .min) (v .max)
+greetingOf used OptionalVersions.None = refused 21 0
+
+-- the answer to a payload that is the encoding of a value
+abbrev pub meaning : ℕ → Value → Answer
+meaning used (integer z) = refused 20 0
+meaning used (string text) = refused 20 0
+meaning used (list vs) = listOf used vs
+meaning used (dictionary es) = greetingOf used (versionsOf (lookup (ascii "version") es))

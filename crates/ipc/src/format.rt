@@ -1,0 +1,192 @@
+// The formats of values: what a message holds of a value that is in the format of its key.
+ghost use mathlib.Core.Path.{_≡_};
+ghost use Prim.Native.Nat.{_≤_};
+ghost use lib.ListN.{length};
+ghost use Rattle.bencode.specs.String.{stringAt};
+ghost use Rattle.bencode.specs.Integer.{integerAt};
+ghost use Rattle.ipc.specs.Header.{largestPayload};
+ghost use Rattle.ipc.specs.Format.{anyInteger, upTo, textValue, partValue, offItem, idEnd, torrentEnd, itemEnd, itemsEnd, listPart, formatted};
+use super::header::HEADER_LENGTH;
+use super::ids::OptionalId;
+use super::ids::TorrentId;
+use super::keys::Class;
+use super::reading::Value;
+use bencode::bytes::byte_at;
+use bencode::entry::Entry;
+use bencode::entry::find;
+use bencode::fault::Fault;
+use bencode::fault::Walk;
+use bencode::integer::Number;
+use bencode::integer::integer;
+use bencode::skip::skip_rest;
+use bencode::string::Text;
+use bencode::string::string;
+use bencode::string::string_end;
+
+// A value in its format, or off it.
+pub enum Checked {
+    Value(Value),
+    Off,
+}
+
+// What the items of a list are.
+pub enum Items {
+    Texts,
+    Ids,
+    Torrents,
+}
+
+// Any integer.
+fn any_integer(p: &[u8], at: usize) -> Checked
+    ensures { λ r. ⌜ r ≡ anyInteger (integerAt (now (p .entry)) at) ⌝ }
+{
+    match integer(p, at) {
+        Number::Integer { value, end: _ } => Checked::Value(Value::Integer(value)),
+        Number::Fault(_) => Checked::Off,
+    }
+}
+
+// An integer from 0 to another.
+fn up_to(p: &[u8], at: usize, high: u16) -> Checked
+    ensures { λ r. ⌜ r ≡ upTo high (integerAt (now (p .entry)) at) ⌝ }
+{
+    match integer(p, at) {
+        Number::Integer { value, end: _ } => {
+            if value < 0 {
+                return Checked::Off;
+            }
+            if (high as i64) < value {
+                return Checked::Off;
+            }
+            Checked::Value(Value::Integer(value))
+        }
+        Number::Fault(_) => Checked::Off,
+    }
+}
+
+// The text of a string.
+fn text_value(p: &[u8], at: usize) -> Checked
+    requires { ⌜ length (now p) ≤ largestPayload ⌝ }
+    ensures { λ r. ⌜ r ≡ textValue (stringAt (now (p .entry)) at) ⌝ }
+{
+    match string(p, at) {
+        Text::Bytes { start, end } => Checked::Value(Value::Text {
+            offset: HEADER_LENGTH + start,
+            length: end - start,
+        }),
+        Text::Fault(_) => Checked::Off,
+    }
+}
+
+// The bytes from an offset of the payload up to another.
+fn part_value(at: usize, end: usize) -> Value
+    requires { ⌜ (at ≤ end) × (end ≤ largestPayload) ⌝ }
+    ensures { λ r. ⌜ r ≡ partValue at end ⌝ }
+{
+    Value::Part {
+        offset: HEADER_LENGTH + at,
+        length: end - at,
+    }
+}
+
+// An item off its format.
+fn off_item(at: usize) -> Walk
+    ensures { λ r. ⌜ r ≡ offItem at ⌝ }
+{
+    Walk::Fault(Fault {
+        code: 22,
+        offset: at,
+    })
+}
+
+// The offset after the torrent ID at an offset.
+fn id_end(p: &[u8], at: usize) -> Walk
+    ensures { λ r. ⌜ r ≡ idEnd (now (p .entry)) at ⌝ }
+{
+    match integer(p, at) {
+        Number::Integer { value, end } => match TorrentId::new(value) {
+            OptionalId::Id(_) => Walk::End(end),
+            OptionalId::None => off_item(at),
+        },
+        Number::Fault(_) => off_item(at),
+    }
+}
+
+// The offset after the torrent at an offset: a dictionary whose `id` is a torrent ID.
+fn torrent_end(p: &[u8], at: usize) -> Walk
+    ensures { λ r. ⌜ r ≡ torrentEnd (now (p .entry)) at ⌝ }
+{
+    if byte_at(p, at) != b'd' {
+        return off_item(at);
+    }
+    match find(p, at + 1, b"id") {
+        Entry::Missing => off_item(at),
+        Entry::At(id) => match id_end(p, id) {
+            Walk::Fault(f) => Walk::Fault(f),
+            Walk::End(end) => Walk::End(skip_rest(p, end)),
+        },
+    }
+}
+
+// The offset after an item of a list.
+fn item_end(p: &[u8], at: usize, items: Items) -> Walk
+    ensures { λ r. ⌜ r ≡ itemEnd items (now (p .entry)) at ⌝ }
+{
+    match items {
+        Items::Texts => string_end(p, at),
+        Items::Ids => id_end(p, at),
+        Items::Torrents => torrent_end(p, at),
+    }
+}
+
+// The offset after the items of a list.
+fn items_end(p: &[u8], from: usize, items: Items) -> Walk
+    ensures { λ r. ⌜ r ≡ itemsEnd items (now (p .entry)) from ⌝ }
+{
+    let mut at = from;
+    loop {
+        if byte_at(p, at) == b'e' {
+            return Walk::End(at + 1);
+        }
+        match item_end(p, at, items) {
+            Walk::End(end) => {
+                at = end;
+            }
+            Walk::Fault(f) => {
+                return Walk::Fault(f);
+            }
+        }
+    }
+}
+
+// The list from an offset up to another.
+fn list_part(p: &[u8], at: usize, end: usize, items: Items) -> Checked
+    requires { ⌜ (at ≤ end) × (end ≤ largestPayload) ⌝ }
+    ensures { λ r. ⌜ r ≡ listPart items (now (p .entry)) at end ⌝ }
+{
+    if byte_at(p, at) != b'l' {
+        return Checked::Off;
+    }
+    match items_end(p, at + 1, items) {
+        Walk::End(_) => Checked::Value(part_value(at, end)),
+        Walk::Fault(_) => Checked::Off,
+    }
+}
+
+// What a message holds of the value from an offset up to another.
+pub fn check_value(p: &[u8], class: Class, at: usize, end: usize) -> Checked
+    requires { ⌜ (at ≤ end) × (end ≤ length (now p)) × (length (now p) ≤ largestPayload) ⌝ }
+    ensures { λ r. ⌜ r ≡ formatted class (now (p .entry)) at end ⌝ }
+{
+    match class {
+        Class::Unlisted => Checked::Value(part_value(at, end)),
+        Class::Boolean => up_to(p, at, 1),
+        Class::Ignored => Checked::Value(Value::Nothing),
+        Class::Text => text_value(p, at),
+        Class::Integer => any_integer(p, at),
+        Class::TextList => list_part(p, at, end, Items::Texts),
+        Class::TorrentList => list_part(p, at, end, Items::Torrents),
+        Class::Port => up_to(p, at, 65535),
+        Class::IdList => list_part(p, at, end, Items::Ids),
+    }
+}

@@ -1,0 +1,216 @@
+// The listed keys: a table of their bytes, formats and whether they are written, and the number of a key.
+ghost use mathlib.Core.Path.{_≡_};
+ghost use Prim.Native.Nat.{_≤_, _<_};
+ghost use Rattle.bencode.specs.Bytes.{same};
+ghost use Rattle.ipc.specs.Keys.{keyCount, rowAt, nameAt, keyNumber, classOf, isWritten};
+
+// The formats of values. A key that is not listed takes any value.
+pub enum Class {
+    Unlisted,
+    Boolean,
+    Ignored,
+    Text,
+    Integer,
+    TextList,
+    TorrentList,
+    Port,
+    IdList,
+}
+
+// A listed key: its bytes and how many they are, the format of its value, and whether it is written.
+pub struct KeyRow {
+    pub text: [u8; 14],
+    pub length: usize,
+    pub class: Class,
+    pub written: bool,
+}
+
+// How many keys are listed.
+pub const LISTED: usize = 20;
+
+// The key with number n stands at n - 1.
+const KEYS: [KeyRow; LISTED] = [
+    KeyRow {
+        text: *b"automap\0\0\0\0\0\0\0",
+        length: 7,
+        class: Class::Boolean,
+        written: true,
+    },
+    KeyRow {
+        text: *b"autostart\0\0\0\0\0",
+        length: 9,
+        class: Class::Boolean,
+        written: true,
+    },
+    KeyRow {
+        text: *b"bad-format\0\0\0\0",
+        length: 10,
+        class: Class::Ignored,
+        written: true,
+    },
+    KeyRow {
+        text: *b"directory\0\0\0\0\0",
+        length: 9,
+        class: Class::Text,
+        written: true,
+    },
+    KeyRow {
+        text: *b"downlimit\0\0\0\0\0",
+        length: 9,
+        class: Class::Integer,
+        written: true,
+    },
+    KeyRow {
+        text: *b"failed\0\0\0\0\0\0\0\0",
+        length: 6,
+        class: Class::Text,
+        written: true,
+    },
+    KeyRow {
+        text: *b"get-downlimit\0",
+        length: 13,
+        class: Class::Ignored,
+        written: true,
+    },
+    KeyRow {
+        text: *b"get-status-all",
+        length: 14,
+        class: Class::TextList,
+        written: false,
+    },
+    KeyRow {
+        text: *b"get-uplimit\0\0\0",
+        length: 11,
+        class: Class::Ignored,
+        written: true,
+    },
+    KeyRow {
+        text: *b"info\0\0\0\0\0\0\0\0\0\0",
+        length: 4,
+        class: Class::TorrentList,
+        written: false,
+    },
+    KeyRow {
+        text: *b"noop\0\0\0\0\0\0\0\0\0\0",
+        length: 4,
+        class: Class::Ignored,
+        written: true,
+    },
+    KeyRow {
+        text: *b"not-supported\0",
+        length: 13,
+        class: Class::Ignored,
+        written: true,
+    },
+    KeyRow {
+        text: *b"pex\0\0\0\0\0\0\0\0\0\0\0",
+        length: 3,
+        class: Class::Boolean,
+        written: true,
+    },
+    KeyRow {
+        text: *b"port\0\0\0\0\0\0\0\0\0\0",
+        length: 4,
+        class: Class::Port,
+        written: true,
+    },
+    KeyRow {
+        text: *b"remove\0\0\0\0\0\0\0\0",
+        length: 6,
+        class: Class::IdList,
+        written: true,
+    },
+    KeyRow {
+        text: *b"start\0\0\0\0\0\0\0\0\0",
+        length: 5,
+        class: Class::IdList,
+        written: true,
+    },
+    KeyRow {
+        text: *b"status\0\0\0\0\0\0\0\0",
+        length: 6,
+        class: Class::TorrentList,
+        written: false,
+    },
+    KeyRow {
+        text: *b"stop\0\0\0\0\0\0\0\0\0\0",
+        length: 4,
+        class: Class::IdList,
+        written: true,
+    },
+    KeyRow {
+        text: *b"succeeded\0\0\0\0\0",
+        length: 9,
+        class: Class::Ignored,
+        written: true,
+    },
+    KeyRow {
+        text: *b"uplimit\0\0\0\0\0\0\0",
+        length: 7,
+        class: Class::Integer,
+        written: true,
+    },
+];
+
+// A row of the table.
+fn row_at(k: usize) -> KeyRow
+    requires { ⌜ k < keyCount ⌝ }
+    ensures { λ r. ⌜ r ≡ rowAt k ⌝ }
+{
+    KEYS[k]
+}
+
+// Is a text the key of a row.
+fn is_key(k: usize, text: &[u8]) -> bool
+    requires { ⌜ k < keyCount ⌝ }
+    ensures { λ r. ⌜ r ≡ same (nameAt k) (now (text .entry)) ⌝ }
+{
+    let row = row_at(k);
+    let n = row.length;
+    let name = row.text;
+    bencode::bytes::same(&name[..n], text)
+}
+
+// The number of a key, and 0 for one that is not listed.
+pub fn key_number(text: &[u8]) -> u8
+    ensures { λ r. ⌜ r ≡ keyNumber (now (text .entry)) ⌝ }
+{
+    let mut k: usize = 0;
+    while k < LISTED {
+        if is_key(k, text) {
+            return (k + 1) as u8;
+        }
+        k += 1;
+    }
+    0
+}
+
+// The format of the values of a key.
+pub fn class_of(number: u8) -> Class
+    ensures { λ r. ⌜ r ≡ classOf number ⌝ }
+{
+    if number == 0 {
+        return Class::Unlisted;
+    }
+    let k = (number - 1) as usize;
+    if LISTED <= k {
+        return Class::Unlisted;
+    }
+    let row = row_at(k);
+    row.class
+}
+
+// Is a key written here.
+pub fn is_written(number: u8) -> bool
+    ensures { λ r. ⌜ r ≡ isWritten number ⌝ }
+{
+    if number == 0 {
+        return false;
+    }
+    let k = (number - 1) as usize;
+    if LISTED <= k {
+        return false;
+    }
+    let row = row_at(k);
+    row.written
+}
