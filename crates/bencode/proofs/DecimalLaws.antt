@@ -92,7 +92,7 @@ pub record Spelt (acc at : ℕ) (l : List ℕ) : Type 0 where
   pub ends : digits acc at l .end ≡ at + length shown
   pub spells : decimal (digits acc at l .number) ≡ decimal acc ++ shown
 
-decimal-next : (acc d : ℕ) → 1 ≤ acc → d < 10 → decimal (acc * 10 + d) ≡ decimal acc ++ ((48 + d) ∷ [])
+pub decimal-next : (acc d : ℕ) → 1 ≤ acc → d < 10 → decimal (acc * 10 + d) ≡ decimal acc ++ ((48 + d) ∷ [])
 decimal-next acc d h q =
     let a : (acc * 10 + d) / 10 ≡ acc = omega arith in
     let b : (acc * 10 + d) % 10 ≡ d = omega arith in

@@ -25,3 +25,7 @@ pub mod Levels
 pub mod FaultCodes
 pub mod FirstBytes
 pub mod KeyRule
+pub mod PutLaws
+pub mod DigitLaws
+pub mod Table
+pub mod PutParts

@@ -12,5 +12,6 @@ pub mod Skip
 pub mod Entry
 pub mod KeySearch
 pub mod Item
+pub mod Put
 pub mod Value
 pub mod Demands

@@ -29,7 +29,12 @@ mutual
     no-entry : Entries
     entry : List ℕ → Value → Entries → Entries
 
--- an integer's digits, after `-` where it is negative
+-- the sign of an integer: `-` where it is negative
+abbrev pub sign : ℤ → List ℕ
+sign (pos n) = []
+sign (negsuc n) = minus ∷ []
+
+-- an integer's digits, after its sign
 abbrev pub signedDecimal : ℤ → List ℕ
 signedDecimal (pos n) = decimal n
 signedDecimal (negsuc n) = minus ∷ decimal (suc n)

@@ -2,7 +2,8 @@
 -- Assumes nothing.
 use Prim.Native.Nat.{ℕ, zero, suc, _+_, _-_, _*_, _≤_, _<_}
 use mathlib.Core.Path.{_≡_, refl, sym, ap, _∙_}
-use mathlib.Core.Bool.{Bool, true, false, cond}
+use mathlib.Core.Bool.{Bool, true, false, cond, _&&_, _||_}
+use mathlib.Core.Logic.{_⊎_, ⊎-elim}
 use mathlib.Core.List.{List, [], _∷_, _++_, append-nil}
 use native.Mathlib.Omega.{arith}
 use native.Mathlib.Decide.{decLt}
@@ -19,10 +20,11 @@ use Rattle.bencode.specs.Depth.{largestDepth}
 use Rattle.bencode.specs.Value.{Value, integer, string, list, dictionary, encode}
 use Rattle.bencode.proofs.Grammar.{accepts-exactly as payload-accepts}
 use Rattle.ipc.specs.declared.header.Header.{Header}
+use Rattle.ipc.specs.declared.reading.Reading.{Reading}
 use Rattle.ipc.specs.declared.header.Sized.{Sized}
-use Rattle.ipc.specs.Answer.{Answer, refused}
+use Rattle.ipc.specs.Answer.{Answer, refused, answerOf}
 use Rattle.ipc.specs.Header.{largestPayload, hexValue, headerIn, readHeader, sized}
-use Rattle.ipc.specs.Frame.{walked, payloadAnswer, lengthAnswer, bySize, byHeader, readFrame}
+use Rattle.ipc.specs.Frame.{walked, payloadReading, lengthReading, bySize, byHeader, frameReading, readFrame}
 use Rattle.ipc.specs.Meaning.{meaning}
 use Rattle.ipc.specs.Demands.{HexDigits, none, more, hexFrom, Framed, AnswersMeaning, AcceptsExactly}
 use Rattle.ipc.proofs.HeaderLaws.{in-some, in-none}
@@ -37,25 +39,25 @@ use Rattle.ipc.proofs.Handshakes.{handshake-means}
 
 -- ---- payloads
 -- the answer to the encoding of a well-formed value is what it means
-pub payload-means : (v : Value) → Good v → payloadAnswer (encode v) ≡ meaning (8 + length (encode v)) v
+pub payload-means : (v : Value) → Good v → answerOf (payloadReading (encode v)) ≡ meaning (8 + length (encode v)) v
 payload-means v h = go v h (payload-accepts Profile.Loose (encode v) .1 (v, h, refl)) (record { rest = []; is = sym (append-nil (encode v)); ends = omega arith })
   where
-    go : (v : Value) → Good v → payloadAt Profile.Loose (encode v) ≡ Walk.End (length (encode v)) → Begins (encode v) 0 (encode v) (length (encode v)) → payloadAnswer (encode v) ≡ meaning (8 + length (encode v)) v
+    go : (v : Value) → Good v → payloadAt Profile.Loose (encode v) ≡ Walk.End (length (encode v)) → Begins (encode v) 0 (encode v) (length (encode v)) → answerOf (payloadReading (encode v)) ≡ meaning (8 + length (encode v)) v
     go (integer z) h e b =
         let p = encode (integer z) in
         let first : byteAt (encode (integer z)) 0 ≡ 105 = starts (integer z) p 0 (length p) b in
-        sym (payload-scalar p (length p) e (λ q. omega arith) (λ q. omega arith))
+        ap answerOf (sym (payload-scalar p (length p) e (λ q. omega arith) (λ q. omega arith)))
     go (string text) h e b =
         let p = encode (string text) in
         let first : byteAt (encode (string text)) 0 ≤ 57 = starts (string text) p 0 (length p) b .1 in
-        sym (payload-scalar p (length p) e (λ q. omega arith) (λ q. omega arith))
+        ap answerOf (sym (payload-scalar p (length p) e (λ q. omega arith) (λ q. omega arith)))
     go (list vs) h e b =
         let p = encode (list vs) in
         let first : byteAt (encode (list vs)) 0 ≡ 108 = starts (list vs) p 0 (length p) b in
-        sym (payload-list p (length p) e (λ q. omega arith) first) ∙ message-means p vs (good-list vs h) (items-begin p 0 (length p) vs b)
+        ap answerOf (sym (payload-list p (length p) e (λ q. omega arith) first)) ∙ message-means p vs (good-list vs h) (items-begin p 0 (length p) vs b)
     go (dictionary es) h e b =
         let p = encode (dictionary es) in
-        sym (payload-dictionary p (length p) e (starts (dictionary es) p 0 (length p) b)) ∙ handshake-means p es (length p) (good-dictionary es h) (entries-begin p 0 (length p) es b)
+        ap answerOf (sym (payload-dictionary p (length p) e (starts (dictionary es) p 0 (length p) b))) ∙ handshake-means p es (length p) (good-dictionary es h) (entries-begin p 0 (length p) es b)
 
 -- a walk to an end is one to the payload's end
 whole-end : (p : List ℕ) (end : ℕ) → payloadAt Profile.Loose p ≡ Walk.End end → payloadAt Profile.Loose p ≡ Walk.End (length p)
@@ -95,17 +97,27 @@ header-digits (suc k) i v n (c ∷ cs) e = digit (decLt (hexValue c) 16) (λ q. 
         let z : _≡_ {A = ℕ} 0 1 = cc in
         absurd (omega arith)
 
+-- a fault's code in the loose profile
+loose-code : (c : ℕ) → isFaultCode Profile.Loose c ≡ true → (5 ≤ c) × (c ≤ 9)
+loose-code c e = go (leb 5 c) refl (leb c 9) refl e
+  where
+    go : (t : Bool) → leb 5 c ≡ t → (u : Bool) → leb c 9 ≡ u → (t && u) || false ≡ true → (5 ≤ c) × (c ≤ 9)
+    go true p true q e = (leb-true 5 c p, leb-true c 9 q)
+    go true p false q e = clash false e refl
+    go false p u q e = clash false e refl
+
 -- ---- frames
-module _ (s : List ℕ) (a : Answer) (accepted : a .code ≡ 0) where
-  refusal : (c at : ℕ) → (c ≡ 0 → ⊥) → refused c at ≡ a → ⊥
-  refusal c at h e = h (ap (λ (x : Answer). x .code) e ∙ accepted)
+module _ (s : List ℕ) (a : Answer) (judged : (a .code ≡ 0) ⊎ (20 ≤ a .code)) where
+  -- no other refusal is such an answer
+  refusal : (c at : ℕ) → 0 < c → c < 20 → refused c at ≡ a → ⊥
+  refusal c at l h e = let i : c ≡ a .code = ap (λ (x : Answer). x .code) e in ⊎-elim (λ (q : a .code ≡ 0). omega arith) (λ (q : 20 ≤ a .code). omega arith) judged
 
   -- an accepted frame is one of the grammar's
   module _ (n : ℕ) (header : readHeader s ≡ Header.Length n) (small : n ≤ largestPayload) (there : 8 + n ≤ length s) where
     parts : s ≡ take 8 s ++ (take n (drop 8 s) ++ drop n (drop 8 s))
     parts = sym (take-append-drop 8 s) ∙ ap (λ (l : List ℕ). take 8 s ++ l) (sym (take-append-drop n (drop 8 s)))
 
-    framed : (v : Value) → Good v → part s 8 (8 + n) ≡ encode v → payloadAnswer (part s 8 (8 + n)) ≡ a → Framed s a
+    framed : (v : Value) → Good v → part s 8 (8 + n) ≡ encode v → answerOf (payloadReading (part s 8 (8 + n))) ≡ a → Framed s a
     unfolding readHeader
     framed v h e q =
         let r = header-digits 8 0 0 n s header in
@@ -122,42 +134,42 @@ module _ (s : List ℕ) (a : Answer) (accepted : a .code ≡ 0) where
           number = r .0 ∙ size;
           small = omega arith;
           formed = h;
-          means = sym (payload-means v h) ∙ ap payloadAnswer (sym e) ∙ q;
+          means = sym (payload-means v h) ∙ ap (λ (l : List ℕ). answerOf (payloadReading l)) (sym e) ∙ q;
         }
 
-    walked-framed : (w : Walk) → payloadAt Profile.Loose (part s 8 (8 + n)) ≡ w → walked (part s 8 (8 + n)) w ≡ a → Framed s a
-    unfolding payloadAnswer
-    walked-framed (Walk.Fault f) e q = absurd (refusal (f .code) (f .offset) (λ z. clash (isFaultCode Profile.Loose (f .code)) (faults-coded Profile.Loose (part s 8 (8 + n)) f e) (ap (isFaultCode Profile.Loose) z)) q)
+    walked-framed : (w : Walk) → payloadAt Profile.Loose (part s 8 (8 + n)) ≡ w → answerOf (walked (part s 8 (8 + n)) w) ≡ a → Framed s a
+    unfolding payloadReading
+    walked-framed (Walk.Fault f) e q = let b = loose-code (f .code) (faults-coded Profile.Loose (part s 8 (8 + n)) f e) in absurd (refusal (f .code) (f .offset) (omega arith) (omega arith) q)
     walked-framed (Walk.End end) e q =
         let v = payload-accepts Profile.Loose (part s 8 (8 + n)) .0 (whole-end (part s 8 (8 + n)) end e) in
         framed (v .0) (v .1) (v .2) (rw e q)
 
-  sized-framed : (n : ℕ) → readHeader s ≡ Header.Length n → (z : Sized) → sized n ≡ z → bySize s z ≡ a → Framed s a
-  unfolding lengthAnswer payloadAnswer
-  sized-framed n header Sized.OverLimit e q = absurd (refusal 4 0 (λ z. omega arith) q)
-  sized-framed n header Sized.OverProtocol e q = absurd (refusal 3 0 (λ z. omega arith) q)
+  sized-framed : (n : ℕ) → readHeader s ≡ Header.Length n → (z : Sized) → sized n ≡ z → answerOf (bySize s z) ≡ a → Framed s a
+  unfolding lengthReading payloadReading
+  sized-framed n header Sized.OverLimit e q = absurd (refusal 4 0 (omega arith) (omega arith) q)
+  sized-framed n header Sized.OverProtocol e q = absurd (refusal 3 0 (omega arith) (omega arith) q)
   sized-framed n header (Sized.Length l) e q = go (leb (8 + l .0) (length s)) refl q
     where
       same : l .0 ≡ n
       same = sized-same n l e
 
-      go : (t : Bool) → leb (8 + l .0) (length s) ≡ t → cond t (payloadAnswer (part s 8 (8 + l .0))) (refused 1 0) ≡ a → Framed s a
-      go false r q = absurd (refusal 1 0 (λ z. omega arith) q)
+      go : (t : Bool) → leb (8 + l .0) (length s) ≡ t → answerOf (cond t (payloadReading (part s 8 (8 + l .0))) Reading.Incomplete) ≡ a → Framed s a
+      go false r q = absurd (refusal 1 0 (omega arith) (omega arith) q)
       go true r q =
           walked-framed (l .0) (header ∙ ap (λ (k : ℕ). Header.Length k) (sym same)) (sized-small n l e) (leb-true (8 + l .0) (length s) r) (payloadAt Profile.Loose (part s 8 (8 + l .0))) refl q
 
   accepted-framed : readFrame s ≡ a → Framed s a
-  unfolding readFrame
+  unfolding readFrame frameReading
   accepted-framed e = go (readHeader s) refl e
     where
-      go : (h : Header) → readHeader s ≡ h → byHeader s h ≡ a → Framed s a
-      go (Header.NoDigit at) q e = absurd (refusal 2 at (λ z. omega arith) e)
-      go Header.Short q e = absurd (refusal 1 0 (λ z. omega arith) e)
+      go : (h : Header) → readHeader s ≡ h → answerOf (byHeader s h) ≡ a → Framed s a
+      go (Header.NoDigit at) q e = absurd (refusal 2 at (omega arith) (omega arith) e)
+      go Header.Short q e = absurd (refusal 1 0 (omega arith) (omega arith) e)
       go (Header.Length n) q e = sized-framed n q (sized n) refl e
 
 -- a frame of the grammar is accepted
 framed-accepted : (s : List ℕ) (a : Answer) → Framed s a → readFrame s ≡ a
-unfolding readHeader
+unfolding readHeader readFrame
 framed-accepted s a f =
     let v = f .payload in
     let n = length (encode v) in
@@ -167,12 +179,11 @@ framed-accepted s a f =
     let after : drop 8 s ≡ encode v ++ f .rest = ap (drop 8) (f .is) ∙ drop-at (f .header) (encode v ++ f .rest) 8 (f .eight) in
     let m : (8 + n) - 8 ≡ n = omega arith in
     let payload : part s 8 (8 + n) ≡ encode v = ap (λ (k : ℕ). take k (drop 8 s)) m ∙ ap (take n) after ∙ take-append-seam (encode v) (f .rest) in
-    sym (frame-sized s n (Sized.Length (record { 0 = n })) header size)
-    ∙ sym (length-there s n (omega arith))
-    ∙ ap payloadAnswer payload ∙ payload-means v (f .formed) ∙ f .means
+    ap answerOf (sym (frame-sized s n (Sized.Length (record { 0 = n })) header size) ∙ sym (length-there s n (omega arith)) ∙ ap payloadReading payload)
+    ∙ payload-means v (f .formed) ∙ f .means
 
 pub accepts-exactly : AcceptsExactly
-accepts-exactly s a accepted = (accepted-framed s a accepted, framed-accepted s a)
+accepts-exactly s a judged = (accepted-framed s a judged, framed-accepted s a)
 
 pub answers-meaning : AnswersMeaning
 answers-meaning s a f = framed-accepted s a f

@@ -1,4 +1,4 @@
--- Laws of the formats: one for each way through their checks. `held z` is the integer z as the machine has it.
+-- Laws of the formats: one for each way through their checks. `machine z` is the integer z as the machine has it.
 -- Assumes nothing.
 use Prim.Native.Nat.{ℕ, _+_, _-_, _^_, _<_}
 use mathlib.Core.Path.{_≡_, refl, sym, ap, _∙_}
@@ -34,7 +34,7 @@ use Rattle.ipc.specs.Ascii.{ascii}
 use Rattle.ipc.specs.Ids.{torrentIdOf}
 use Rattle.bencode.specs.Entry.{entryAt}
 use Rattle.ipc.specs.Format.{anyInteger, upTo, textValue, partValue, offItem, idThen, idNumber, idEnd, afterId, torrentWith, torrentEnd, itemEnd, itemsEnd, listPart}
-use Rattle.ipc.proofs.Ranges.{held, natural-held, same, too-low, too-high, in-range}
+use Rattle.ipc.proofs.Ranges.{machine, natural-machine, same, too-low, too-high, in-range}
 
 -- an integer that is read fits 64 bits
 pub integer-fits : (p : List ℕ) (at : ℕ) (z : ℤ) (end : ℕ) → integerAt p at ≡ Number.Integer z end → SFits w64 z
@@ -57,29 +57,29 @@ module _ (p : List ℕ) (at : ℕ) where
     id-off = rw e refl
 
   module _ (z : ℤ) (end : ℕ) (e : integerAt p at ≡ Number.Integer z end) where
-    pub any-good : Checked.Value (Value.Integer (held z)) ≡ anyInteger (integerAt p at)
+    pub any-good : Checked.Value (Value.Integer (machine z)) ≡ anyInteger (integerAt p at)
     any-good = rw (same z (integer-fits p at z end e), e) refl
 
     module _ (high : ℕ) (small : high < 2 ^ 63) where
-      from-held : (t : Bool) → ltZ (toZ w64 high) (held z) ≡ t → ltZ (pos high) (held z) ≡ t
-      from-held t h = ap (λ (x : ℤ). ltZ x (held z)) (sym (natural-held high small)) ∙ h
+      from-machine : (t : Bool) → ltZ (toZ w64 high) (machine z) ≡ t → ltZ (pos high) (machine z) ≡ t
+      from-machine t h = ap (λ (x : ℤ). ltZ x (machine z)) (sym (natural-machine high small)) ∙ h
 
-      pub up-low : ltZ (held z) (pos 0) ≡ true → Checked.Off ≡ upTo high (integerAt p at)
+      pub up-low : ltZ (machine z) (pos 0) ≡ true → Checked.Off ≡ upTo high (integerAt p at)
       up-low h = rw (e, too-low z (integer-fits p at z end e) 0 high h) refl
 
-      pub up-high : ltZ (toZ w64 high) (held z) ≡ true → Checked.Off ≡ upTo high (integerAt p at)
-      up-high h = rw (e, too-high z (integer-fits p at z end e) 0 high (from-held true h)) refl
+      pub up-high : ltZ (toZ w64 high) (machine z) ≡ true → Checked.Off ≡ upTo high (integerAt p at)
+      up-high h = rw (e, too-high z (integer-fits p at z end e) 0 high (from-machine true h)) refl
 
-      pub up-good : ltZ (held z) (pos 0) ≡ false → ltZ (toZ w64 high) (held z) ≡ false → Checked.Value (Value.Integer (held z)) ≡ upTo high (integerAt p at)
+      pub up-good : ltZ (machine z) (pos 0) ≡ false → ltZ (toZ w64 high) (machine z) ≡ false → Checked.Value (Value.Integer (machine z)) ≡ upTo high (integerAt p at)
       up-good l h =
           let f = integer-fits p at z end e in
-          rw (same z f, e, in-range z f 0 high l (from-held false h)) refl
+          rw (same z f, e, in-range z f 0 high l (from-machine false h)) refl
 
-    pub id-good : (id : TorrentId) → torrentIdOf (held z) ≡ OptionalId.Id id → Walk.End end ≡ idEnd p at
+    pub id-good : (id : TorrentId) → torrentIdOf (machine z) ≡ OptionalId.Id id → Walk.End end ≡ idEnd p at
     unfolding idEnd
     id-good id h = rw (e, ← same z (integer-fits p at z end e), h) refl
 
-    pub id-none : torrentIdOf (held z) ≡ OptionalId.None → offItem at ≡ idEnd p at
+    pub id-none : torrentIdOf (machine z) ≡ OptionalId.None → offItem at ≡ idEnd p at
     unfolding idEnd
     id-none h = rw (e, ← same z (integer-fits p at z end e), h) refl
 

@@ -16,38 +16,38 @@ use Rattle.bencode.specs.Walk.{payloadAt}
 use Rattle.ipc.specs.declared.header.Header.{Header}
 use Rattle.ipc.specs.declared.header.PayloadLength.{PayloadLength}
 use Rattle.ipc.specs.declared.header.Sized.{Sized}
-use Rattle.ipc.specs.Answer.{refused}
+use Rattle.ipc.specs.declared.reading.Reading.{Reading}
 use Rattle.ipc.specs.Header.{largestPayload, protocolPayload, readHeader, sized}
-use Rattle.ipc.specs.Message.{messageAnswer}
-use Rattle.ipc.specs.Handshake.{handshakeAnswer}
-use Rattle.ipc.specs.Frame.{payloadAnswer, lengthAnswer, bySize, readFrame}
+use Rattle.ipc.specs.Message.{messageReading}
+use Rattle.ipc.specs.Handshake.{handshakeReading}
+use Rattle.ipc.specs.Frame.{payloadReading, lengthReading, bySize, frameReading}
 
 module _ (p : List ℕ) where
-  pub payload-fault : (f : Fault) → payloadAt Profile.Loose p ≡ Walk.Fault f → refused (f .code) (f .offset) ≡ payloadAnswer p
-  unfolding payloadAnswer
+  pub payload-fault : (f : Fault) → payloadAt Profile.Loose p ≡ Walk.Fault f → Reading.Payload f ≡ payloadReading p
+  unfolding payloadReading
   payload-fault f e = rw e refl
 
   module _ (end : ℕ) (e : payloadAt Profile.Loose p ≡ Walk.End end) where
-    pub payload-dictionary : byteAt p 0 ≡ 100 → handshakeAnswer p ≡ payloadAnswer p
-    unfolding payloadAnswer
+    pub payload-dictionary : byteAt p 0 ≡ 100 → handshakeReading p ≡ payloadReading p
+    unfolding payloadReading
     payload-dictionary b = rw (e, eq-eqb (byteAt p 0) 100 b) refl
 
     module _ (b : byteAt p 0 ≡ 100 → ⊥) where
-      pub payload-list : byteAt p 0 ≡ 108 → messageAnswer p ≡ payloadAnswer p
-      unfolding payloadAnswer
+      pub payload-list : byteAt p 0 ≡ 108 → messageReading p ≡ payloadReading p
+      unfolding payloadReading
       payload-list l = rw (e, ne-eqb (byteAt p 0) 100 b, eq-eqb (byteAt p 0) 108 l) refl
 
-      pub payload-scalar : (byteAt p 0 ≡ 108 → ⊥) → refused 20 0 ≡ payloadAnswer p
-      unfolding payloadAnswer
+      pub payload-scalar : (byteAt p 0 ≡ 108 → ⊥) → Reading.NoMessage ≡ payloadReading p
+      unfolding payloadReading
       payload-scalar l = rw (e, ne-eqb (byteAt p 0) 100 b, ne-eqb (byteAt p 0) 108 l) refl
 
 module _ (s : List ℕ) (n : ℕ) where
-  pub length-short : length s < 8 + n → refused 1 0 ≡ lengthAnswer s n
-  unfolding lengthAnswer
+  pub length-short : length s < 8 + n → Reading.Incomplete ≡ lengthReading s n
+  unfolding lengthReading
   length-short h = rw (lt-leb (8 + n) (length s) h) refl
 
-  pub length-there : 8 + n ≤ length s → payloadAnswer (part s 8 (8 + n)) ≡ lengthAnswer s n
-  unfolding lengthAnswer
+  pub length-there : 8 + n ≤ length s → payloadReading (part s 8 (8 + n)) ≡ lengthReading s n
+  unfolding lengthReading
   length-there h = rw (le-leb (8 + n) (length s) h) refl
 
 -- a length that is taken is within the limit
@@ -78,14 +78,14 @@ unfolding sized
 sized-fits n h = rw (le-ltb protocolPayload n (omega arith), le-ltb largestPayload n h) refl
 
 module _ (s : List ℕ) where
-  pub frame-no-digit : (at : ℕ) → readHeader s ≡ Header.NoDigit at → refused 2 at ≡ readFrame s
-  unfolding readFrame
+  pub frame-no-digit : (at : ℕ) → readHeader s ≡ Header.NoDigit at → Reading.NoDigit at ≡ frameReading s
+  unfolding frameReading
   frame-no-digit at e = rw e refl
 
-  pub frame-short : readHeader s ≡ Header.Short → refused 1 0 ≡ readFrame s
-  unfolding readFrame
+  pub frame-short : readHeader s ≡ Header.Short → Reading.Incomplete ≡ frameReading s
+  unfolding frameReading
   frame-short e = rw e refl
 
-  pub frame-sized : (n : ℕ) (z : Sized) → readHeader s ≡ Header.Length n → sized n ≡ z → bySize s z ≡ readFrame s
-  unfolding readFrame
+  pub frame-sized : (n : ℕ) (z : Sized) → readHeader s ≡ Header.Length n → sized n ≡ z → bySize s z ≡ frameReading s
+  unfolding frameReading
   frame-sized n z e h = rw (e, h) refl

@@ -17,26 +17,26 @@ use Rattle.bencode.specs.Integer.{integerAt}
 use Rattle.ipc.specs.declared.versions.OptionalVersions.{OptionalVersions}
 use Rattle.ipc.specs.Ascii.{ascii}
 use Rattle.ipc.specs.Handshake.{largestVersion, rangeOf, integerOf, between, versionsAt}
-use Rattle.ipc.proofs.Ranges.{held, same, and-false, lt-false, not-lt, le-not, le-yes, ge-not, ge-yes, Natural}
+use Rattle.ipc.proofs.Ranges.{machine, same, and-false, lt-false, not-lt, le-not, le-yes, ge-not, ge-yes, Natural}
 
 module _ (a b : ℤ) (fa : SFits w64 a) (fb : SFits w64 b) where
-  order : (t : Bool) → ltZ (held b) (held a) ≡ t → ltZ b a ≡ t
-  order t h = ap (λ (x : ℤ). ltZ x a) (sym (same b fb)) ∙ ap (λ (x : ℤ). ltZ (held b) x) (sym (same a fa)) ∙ h
+  order : (t : Bool) → ltZ (machine b) (machine a) ≡ t → ltZ b a ≡ t
+  order t h = ap (λ (x : ℤ). ltZ x a) (sym (same b fb)) ∙ ap (λ (x : ℤ). ltZ (machine b) x) (sym (same a fa)) ∙ h
 
-  pub range-low : ltZ (held a) (pos 1) ≡ true → OptionalVersions.None ≡ rangeOf a b
+  pub range-low : ltZ (machine a) (pos 1) ≡ true → OptionalVersions.None ≡ rangeOf a b
   unfolding rangeOf
   range-low h = rw (le-not a fa (pos 1) h) refl
 
-  pub range-empty : ltZ (held b) (held a) ≡ true → OptionalVersions.None ≡ rangeOf a b
+  pub range-empty : ltZ (machine b) (machine a) ≡ true → OptionalVersions.None ≡ rangeOf a b
   unfolding rangeOf
   range-empty h = rw (lt-false b a (order true h), and-false (leZ (pos 1) a)) refl
 
-  pub range-high : ltZ (pos largestVersion) (held b) ≡ true → OptionalVersions.None ≡ rangeOf a b
+  pub range-high : ltZ (pos largestVersion) (machine b) ≡ true → OptionalVersions.None ≡ rangeOf a b
   unfolding rangeOf
   range-high h = rw (ge-not b fb (pos largestVersion) h, and-false (leZ a b), and-false (leZ (pos 1) a)) refl
 
-  module _ (l : ltZ (held a) (pos 1) ≡ false) (o : ltZ (held b) (held a) ≡ false) (h : ltZ (pos largestVersion) (held b) ≡ false) where
-    pub range-good : OptionalVersions.Range (record { min = natAbs (held a); max = natAbs (held b) }) ≡ rangeOf a b
+  module _ (l : ltZ (machine a) (pos 1) ≡ false) (o : ltZ (machine b) (machine a) ≡ false) (h : ltZ (pos largestVersion) (machine b) ≡ false) where
+    pub range-good : OptionalVersions.Range (record { min = natAbs (machine a); max = natAbs (machine b) }) ≡ rangeOf a b
     unfolding rangeOf
     range-good = rw (same a fa, same b fb, le-yes a fa (pos 1) l, not-lt b a (order false o), ge-yes b fb (pos largestVersion) h) refl
 
@@ -52,7 +52,7 @@ module _ (a b : ℤ) (fa : SFits w64 a) (fb : SFits w64 b) where
         go (negsuc m) b x y z = absurd (subst T (sym x) tt)
 
 -- two integers that are read
-pub between-integers : (low high : Number) (a b : ℤ) (x y : ℕ) → low ≡ Number.Integer a x → high ≡ Number.Integer b y → SFits w64 a → SFits w64 b → rangeOf (held a) (held b) ≡ between low high
+pub between-integers : (low high : Number) (a b : ℤ) (x y : ℕ) → low ≡ Number.Integer a x → high ≡ Number.Integer b y → SFits w64 a → SFits w64 b → rangeOf (machine a) (machine b) ≡ between low high
 between-integers low high a b x y e f fa fb = rw (same a fa, same b fb, e, f) refl
 
 module _ (p : List ℕ) (at : ℕ) where

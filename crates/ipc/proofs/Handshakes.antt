@@ -14,10 +14,11 @@ use Rattle.bencode.specs.Value.{Value, integer, string, list, dictionary, Entri
 use Rattle.bencode.specs.Bytes.{Begins}
 use Rattle.bencode.specs.declared.entry.Entry.{Entry}
 use Rattle.ipc.specs.declared.versions.OptionalVersions.{OptionalVersions}
+use Rattle.ipc.specs.Answer.{answerOf}
 use Rattle.ipc.specs.Ascii.{ascii}
 use Rattle.bencode.specs.Entry.{entryAt}
-use Rattle.ipc.specs.Handshake.{entryInteger, integerOf, between, versionsAt, entryVersions, dictionaryVersions, greeted, handshakeAnswer}
-use Rattle.ipc.specs.Meaning.{rangeTo, rangeFrom, versionsOf, greetingOf}
+use Rattle.ipc.specs.Handshake.{entryInteger, integerOf, between, versionsAt, entryVersions, dictionaryVersions, handshakeOf, handshakeReading}
+use Rattle.ipc.specs.Meaning.{rangeTo, rangeFrom, versionsOf, versionsAnswer}
 use Rattle.ipc.proofs.HandshakeLaws.{versions-dictionary, versions-integer}
 use Rattle.bencode.specs.Depth.{largestDepth}
 use Rattle.bencode.specs.Demands.{Located}
@@ -73,14 +74,14 @@ module _ (p : List ℕ) where
       ∙ between-means (lookup (ascii "min") es) (lookup (ascii "max") es) (integerOf p (ascii "min") (to + 1)) (integerOf p (ascii "max") (to + 1))
       (number-means (ascii "min") es (to + 1) k (good-dictionary es h) (entries-begin p to k es b)) (number-means (ascii "max") es (to + 1) k (good-dictionary es h) (entries-begin p to k es b))
 
-  greeted-same : (v : OptionalVersions) → greeted p v ≡ greetingOf (headerLength + length p) v
-  greeted-same (OptionalVersions.Range v) = refl
-  greeted-same OptionalVersions.None = refl
+  handshakeOf-same : (v : OptionalVersions) → answerOf (handshakeOf p v) ≡ versionsAnswer (headerLength + length p) v
+  handshakeOf-same (OptionalVersions.Range v) = refl
+  handshakeOf-same OptionalVersions.None = refl
 
   -- the answer to a dictionary
-  pub handshake-means : (es : Entries) (e : ℕ) → AllEntries Profile.Loose Good [] es → Begins p 1 (encodeEntries es ++ (101 ∷ [])) e → handshakeAnswer p ≡ greetingOf (headerLength + length p) (versionsOf (lookup (ascii "version") es))
-  unfolding handshakeAnswer dictionaryVersions
-  handshake-means es e h b = greeted-same (entryVersions p (entryAt p (ascii "version") 1)) ∙ ap (λ (v : OptionalVersions). greetingOf (headerLength + length p) v) (go (lookup (ascii "version") es) (entryAt p (ascii "version") 1) refl (find-means p (ascii "version") es 1 e h b))
+  pub handshake-means : (es : Entries) (e : ℕ) → AllEntries Profile.Loose Good [] es → Begins p 1 (encodeEntries es ++ (101 ∷ [])) e → answerOf (handshakeReading p) ≡ versionsAnswer (headerLength + length p) (versionsOf (lookup (ascii "version") es))
+  unfolding handshakeReading dictionaryVersions
+  handshake-means es e h b = handshakeOf-same (entryVersions p (entryAt p (ascii "version") 1)) ∙ ap (λ (v : OptionalVersions). versionsAnswer (headerLength + length p) v) (go (lookup (ascii "version") es) (entryAt p (ascii "version") 1) refl (find-means p (ascii "version") es 1 e h b))
     where
       go : (f : Found) (x : Entry) → entryAt p (ascii "version") 1 ≡ x → Located Profile.Loose largestDepth p e f x → entryVersions p (entryAt p (ascii "version") 1) ≡ versionsOf f
       go missing Entry.Missing q l = rw q refl

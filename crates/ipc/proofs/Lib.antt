@@ -10,3 +10,8 @@ pub mod Messages
 pub mod Handshakes
 pub mod Accepts
 pub mod Tried
+pub mod HexLaws
+pub mod Inverts
+pub mod WritesBack
+pub mod IdLists
+pub mod ReadsBack

@@ -25,16 +25,17 @@ use Rattle.bencode.proofs.BeginsLaws.{begins-left, begins-right, begins-head}
 use Rattle.bencode.proofs.ScalarReads.{string-reads}
 use Rattle.ipc.specs.declared.keys.Class.{Class}
 use Rattle.ipc.specs.declared.ids.OptionalTag.{OptionalTag}
-use Rattle.ipc.specs.declared.message.Third.{Third}
+use Rattle.ipc.specs.declared.message.Tail.{Tail}
+use Rattle.ipc.specs.declared.reading.Reading.{Reading}
 use Rattle.ipc.specs.declared.format.Checked.{Checked}
 use Rattle.ipc.specs.declared.format.Items.{Items}
-use Rattle.ipc.specs.declared.reading.Value.{Value as Held}
-use Rattle.ipc.specs.Answer.{refused}
+use Rattle.ipc.specs.declared.reading.Value.{Value as MessageValue}
+use Rattle.ipc.specs.Answer.{refused, answerOf}
 use Rattle.ipc.specs.Header.{headerLength}
 use Rattle.ipc.specs.Ids.{within, tagOf}
 use Rattle.ipc.specs.Keys.{keyNumber, classOf}
 use Rattle.ipc.specs.Format.{largestPort, anyInteger, upTo, textValue, partValue, itemsEnd, listPart, formatted}
-use Rattle.ipc.specs.Message.{lastTag, thirdAt, valued, thirdly, messageAnswer}
+use Rattle.ipc.specs.Message.{lastTag, tailAt, valued, fromTag, messageReading}
 use Rattle.ipc.specs.Meaning.{every, wholeAt, asInteger, asText, asList, judged, answered, messageOf, lastOf, thirdOf, secondOf, listOf}
 use Rattle.ipc.proofs.FormatLaws.{list-other, list-good, list-off}
 use Rattle.ipc.proofs.MessageLaws.{third-end, message-no-key, message-no-value, message-keyed}
@@ -77,7 +78,7 @@ module _ (p : List ℕ) where
     items-listed items vs h b = go (every (okItem items) vs) (items-mean p items vs (at + 1) e (good-list vs h) (items-begin p at e vs b))
       where
         go : (t : Bool) → Judge t (itemsEnd items p (at + 1)) e → listPart items p at e ≡ cond t (Checked.Value (wholeAt at (list vs))) Checked.Off
-        go true j = sym (list-good items p at e (starts (list vs) p at e b) e j) ∙ ap (λ (v : Held). Checked.Value v) (whole-means (list vs) b)
+        go true j = sym (list-good items p at e (starts (list vs) p at e b) e j) ∙ ap (λ (v : MessageValue). Checked.Value v) (whole-means (list vs) b)
         go false j = sym (list-off items p at e (starts (list vs) p at e b) (j .0) (j .1))
 
     part-means : (items : Items) (x : Value) → Good x → Begins p at (encode x) e → listPart items p at e ≡ asList (okItem items) at x
@@ -88,7 +89,7 @@ module _ (p : List ℕ) where
 
     pub format-means : (class : Class) (x : Value) → Good x → Begins p at (encode x) e → formatted class p at e ≡ judged class at x
     unfolding formatted
-    format-means Class.Unlisted x h b = ap (λ (v : Held). Checked.Value v) (whole-means x b)
+    format-means Class.Unlisted x h b = ap (λ (v : MessageValue). Checked.Value v) (whole-means x b)
     format-means Class.Boolean x h b = up-means 1 x h b
     format-means Class.Ignored x h b = refl
     format-means Class.Text x h b = text-means x b
@@ -99,26 +100,26 @@ module _ (p : List ℕ) where
     format-means Class.IdList x h b = part-means Items.Ids x h b
 
   -- ---- messages
-  valued-same : (k : ℕ) (tag : OptionalTag) (c : Checked) → valued p k tag c ≡ answered (headerLength + length p) k tag c
+  valued-same : (k : ℕ) (tag : OptionalTag) (c : Checked) → answerOf (valued p k tag c) ≡ answered (headerLength + length p) k tag c
   valued-same k tag (Checked.Value v) = refl
   valued-same k tag Checked.Off = refl
 
   module _ (key : List ℕ) (x : Value) (e : ℕ) (h : Good x) (b : Begins p (1 + length (encodeString key)) (encode x) e) where
-    keyed-means : (tag : OptionalTag) → valued p (keyNumber key) tag (formatted (classOf (keyNumber key)) p (1 + length (encodeString key)) e) ≡ messageOf (headerLength + length p) key x tag
+    keyed-means : (tag : OptionalTag) → answerOf (valued p (keyNumber key) tag (formatted (classOf (keyNumber key)) p (1 + length (encodeString key)) e)) ≡ messageOf (headerLength + length p) key x tag
     keyed-means tag =
-        ap (λ (c : Checked). valued p (keyNumber key) tag c) (format-means (1 + length (encodeString key)) e (classOf (keyNumber key)) x h b)
+        ap (λ (c : Checked). answerOf (valued p (keyNumber key) tag c)) (format-means (1 + length (encodeString key)) e (classOf (keyNumber key)) x h b)
         ∙ valued-same (keyNumber key) tag (judged (classOf (keyNumber key)) (1 + length (encodeString key)) x)
 
-    other-means : (f : Fault) → (byteAt p e ≡ 101 → ⊥) → integerAt p e ≡ Number.Fault f → thirdly p (keyNumber key) (1 + length (encodeString key)) e (thirdAt p e) ≡ refused 20 0
-    unfolding thirdAt
+    other-means : (f : Fault) → (byteAt p e ≡ 101 → ⊥) → integerAt p e ≡ Number.Fault f → fromTag p (keyNumber key) (1 + length (encodeString key)) e (tailAt p e) ≡ Reading.NoMessage
+    unfolding tailAt
     other-means f no-e q = rw (ne-eqb (byteAt p e) 101 no-e, q) refl
 
-    tagged-means : (z : ℤ) (to : ℕ) → (byteAt p e ≡ 101 → ⊥) → integerAt p e ≡ Number.Integer z to → thirdly p (keyNumber key) (1 + length (encodeString key)) e (thirdAt p e) ≡ thirdly p (keyNumber key) (1 + length (encodeString key)) e (lastTag p to (tagOf z))
-    unfolding thirdAt
+    tagged-means : (z : ℤ) (to : ℕ) → (byteAt p e ≡ 101 → ⊥) → integerAt p e ≡ Number.Integer z to → fromTag p (keyNumber key) (1 + length (encodeString key)) e (tailAt p e) ≡ fromTag p (keyNumber key) (1 + length (encodeString key)) e (lastTag p to (tagOf z))
+    unfolding tailAt
     tagged-means z to no-e q = rw (ne-eqb (byteAt p e) 101 no-e, q) refl
 
     last-means : (vs : Values) (to : ℕ) → All Good vs → Begins p to (encodeAll vs ++ (101 ∷ [])) (length p) → (z : ℤ) (o : OptionalTag) → tagOf z ≡ o
-        → thirdly p (keyNumber key) (1 + length (encodeString key)) e (lastTag p to o) ≡ lastOf (headerLength + length p) key x z vs
+        → answerOf (fromTag p (keyNumber key) (1 + length (encodeString key)) e (lastTag p to o)) ≡ lastOf (headerLength + length p) key x z vs
     unfolding encode
     last-means no-value to g c z OptionalTag.None q = rw q refl
     last-means no-value to g c z (OptionalTag.Tag t) q = rw (q, eq-eqb (byteAt p to) 101 (begins-head p to 101 (length p) [] c)) (keyed-means (OptionalTag.Tag t))
@@ -128,42 +129,42 @@ module _ (p : List ℕ) where
         let l = begins-left p to (length p) (encode y) (encodeAll vs ++ (101 ∷ [])) d in
         rw (ne-eqb (byteAt p to) 101 (value-first p to (to + length (encode y)) y l)) refl
 
-    third-means : (vs : Values) → All Good vs → Begins p e (encodeAll vs ++ (101 ∷ [])) (length p) → thirdly p (keyNumber key) (1 + length (encodeString key)) e (thirdAt p e) ≡ thirdOf (headerLength + length p) key x vs
+    third-means : (vs : Values) → All Good vs → Begins p e (encodeAll vs ++ (101 ∷ [])) (length p) → answerOf (fromTag p (keyNumber key) (1 + length (encodeString key)) e (tailAt p e)) ≡ thirdOf (headerLength + length p) key x vs
     unfolding encode
-    third-means no-value g c = ap (λ (t : Third). thirdly p (keyNumber key) (1 + length (encodeString key)) e t) (sym (third-end p e (begins-head p e 101 (length p) [] c))) ∙ keyed-means OptionalTag.None
+    third-means no-value g c = ap (λ (t : Tail). answerOf (fromTag p (keyNumber key) (1 + length (encodeString key)) e t)) (sym (third-end p e (begins-head p e 101 (length p) [] c))) ∙ keyed-means OptionalTag.None
     third-means (value y vs) g c = kinds y (g .0) (begins-left p e (length p) (encode y) (encodeAll vs ++ (101 ∷ [])) d) (begins-right p e (length p) (encode y) (encodeAll vs ++ (101 ∷ [])) d)
       where
         d : Begins p e (encode y ++ (encodeAll vs ++ (101 ∷ []))) (length p)
         d = subst (λ (l : List ℕ). Begins p e l (length p)) (values-text y vs) c
 
         kinds : (y : Value) → Good y → Begins p e (encode y) (e + length (encode y)) → Begins p (e + length (encode y)) (encodeAll vs ++ (101 ∷ [])) (length p)
-            → thirdly p (keyNumber key) (1 + length (encodeString key)) e (thirdAt p e) ≡ thirdOf (headerLength + length p) key x (value y vs)
+            → answerOf (fromTag p (keyNumber key) (1 + length (encodeString key)) e (tailAt p e)) ≡ thirdOf (headerLength + length p) key x (value y vs)
         kinds (integer z) k l r =
-            tagged-means z (e + length (encode (integer z))) (value-first p e (e + length (encode (integer z))) (integer z) l) (reads-integer Profile.Loose largestDepth (integer z) p e (e + length (encode (integer z))) k l)
+            ap answerOf (tagged-means z (e + length (encode (integer z))) (value-first p e (e + length (encode (integer z))) (integer z) l) (reads-integer Profile.Loose largestDepth (integer z) p e (e + length (encode (integer z))) k l))
             ∙ last-means vs (e + length (encode (integer z))) (g .1) r z (tagOf z) refl
-        kinds (string text) k l r = let r = reads-integer Profile.Loose largestDepth (string text) p e (e + length (encode (string text))) k l in other-means (r .0) (value-first p e (e + length (encode (string text))) (string text) l) (r .1)
-        kinds (list us) k l r = let r = reads-integer Profile.Loose largestDepth (list us) p e (e + length (encode (list us))) k l in other-means (r .0) (value-first p e (e + length (encode (list us))) (list us) l) (r .1)
-        kinds (dictionary es) k l r = let r = reads-integer Profile.Loose largestDepth (dictionary es) p e (e + length (encode (dictionary es))) k l in other-means (r .0) (value-first p e (e + length (encode (dictionary es))) (dictionary es) l) (r .1)
+        kinds (string text) k l r = let r = reads-integer Profile.Loose largestDepth (string text) p e (e + length (encode (string text))) k l in ap answerOf (other-means (r .0) (value-first p e (e + length (encode (string text))) (string text) l) (r .1))
+        kinds (list us) k l r = let r = reads-integer Profile.Loose largestDepth (list us) p e (e + length (encode (list us))) k l in ap answerOf (other-means (r .0) (value-first p e (e + length (encode (list us))) (list us) l) (r .1))
+        kinds (dictionary es) k l r = let r = reads-integer Profile.Loose largestDepth (dictionary es) p e (e + length (encode (dictionary es))) k l in ap answerOf (other-means (r .0) (value-first p e (e + length (encode (dictionary es))) (dictionary es) l) (r .1))
 
-  no-key : 57 < byteAt p 1 → messageAnswer p ≡ refused 20 0
-  no-key h = let k = no-string p 1 h in sym (message-no-key p (k .0) (k .1))
+  no-key : 57 < byteAt p 1 → answerOf (messageReading p) ≡ refused 20 0
+  no-key h = let k = no-string p 1 h in ap answerOf (sym (message-no-key p (k .0) (k .1)))
 
   -- after a key
   second-means : (key : List ℕ) (start : ℕ) → stringAt p 1 ≡ Text.Bytes start (1 + length (encodeString key)) → part p start (1 + length (encodeString key)) ≡ key
-      → (vs : Values) → All Good vs → Begins p (1 + length (encodeString key)) (encodeAll vs ++ (101 ∷ [])) (length p) → messageAnswer p ≡ secondOf (headerLength + length p) key vs
+      → (vs : Values) → All Good vs → Begins p (1 + length (encodeString key)) (encodeAll vs ++ (101 ∷ [])) (length p) → answerOf (messageReading p) ≡ secondOf (headerLength + length p) key vs
   unfolding encode
   second-means key start text is no-value g c =
-      sym (message-no-value p start (1 + length (encodeString key)) text (ends-items p (1 + length (encodeString key)) (begins-head p (1 + length (encodeString key)) 101 (length p) [] c)))
+      ap answerOf (sym (message-no-value p start (1 + length (encodeString key)) text (ends-items p (1 + length (encodeString key)) (begins-head p (1 + length (encodeString key)) 101 (length p) [] c))))
   second-means key start text is (value x vs) g c =
       let d = subst (λ (l : List ℕ). Begins p (1 + length (encodeString key)) l (length p)) (values-text x vs) c in
       let l = begins-left p (1 + length (encodeString key)) (length p) (encode x) (encodeAll vs ++ (101 ∷ [])) d in
       let r = begins-right p (1 + length (encodeString key)) (length p) (encode x) (encodeAll vs ++ (101 ∷ [])) d in
-      sym (message-keyed p start (1 + length (encodeString key)) text (1 + length (encodeString key) + length (encode x)) (finds-item Profile.Loose largestDepth x p (1 + length (encodeString key)) (1 + length (encodeString key) + length (encode x)) (g .0) l))
-      ∙ ap (λ (k : List ℕ). thirdly p (keyNumber k) (1 + length (encodeString key)) (1 + length (encodeString key) + length (encode x)) (thirdAt p (1 + length (encodeString key) + length (encode x)))) is
+      ap answerOf (sym (message-keyed p start (1 + length (encodeString key)) text (1 + length (encodeString key) + length (encode x)) (finds-item Profile.Loose largestDepth x p (1 + length (encodeString key)) (1 + length (encodeString key) + length (encode x)) (g .0) l)))
+      ∙ ap (λ (k : List ℕ). answerOf (fromTag p (keyNumber k) (1 + length (encodeString key)) (1 + length (encodeString key) + length (encode x)) (tailAt p (1 + length (encodeString key) + length (encode x))))) is
       ∙ third-means key x (1 + length (encodeString key) + length (encode x)) (g .0) l vs (g .1) r
 
   -- the answer to a list
-  pub message-means : (vs : Values) → All Good vs → Begins p 1 (encodeAll vs ++ (101 ∷ [])) (length p) → messageAnswer p ≡ listOf (headerLength + length p) vs
+  pub message-means : (vs : Values) → All Good vs → Begins p 1 (encodeAll vs ++ (101 ∷ [])) (length p) → answerOf (messageReading p) ≡ listOf (headerLength + length p) vs
   unfolding encode
   message-means no-value g c = no-key (omega (arith, begins-head p 1 101 (length p) [] c))
   message-means (value y vs) g c = kinds y (g .0) (begins-left p 1 (length p) (encode y) (encodeAll vs ++ (101 ∷ [])) d) (begins-right p 1 (length p) (encode y) (encodeAll vs ++ (101 ∷ [])) d)
@@ -171,7 +172,7 @@ module _ (p : List ℕ) where
       d : Begins p 1 (encode y ++ (encodeAll vs ++ (101 ∷ []))) (length p)
       d = subst (λ (l : List ℕ). Begins p 1 l (length p)) (values-text y vs) c
 
-      kinds : (y : Value) → Good y → Begins p 1 (encode y) (1 + length (encode y)) → Begins p (1 + length (encode y)) (encodeAll vs ++ (101 ∷ [])) (length p) → messageAnswer p ≡ listOf (headerLength + length p) (value y vs)
+      kinds : (y : Value) → Good y → Begins p 1 (encode y) (1 + length (encode y)) → Begins p (1 + length (encode y)) (encodeAll vs ++ (101 ∷ [])) (length p) → answerOf (messageReading p) ≡ listOf (headerLength + length p) (value y vs)
       kinds (integer z) k l r = no-key (omega (arith, starts (integer z) p 1 (1 + length (encode (integer z))) l))
       kinds (string key) k l r = let t = string-reads p 1 (1 + length (encodeString key)) key l in second-means key (t .0) (t .1) (t .2) vs (g .1) r
       kinds (list us) k l r = no-key (omega (arith, starts (list us) p 1 (1 + length (encode (list us))) l))

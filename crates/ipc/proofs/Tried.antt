@@ -17,11 +17,11 @@ use Rattle.ipc.specs.Ids.{tagOf, torrentIdOf}
 use Rattle.ipc.specs.Keys.{listed, numberFrom, keyNumber, classOf}
 use Rattle.bencode.specs.Entry.{entryAt}
 use Rattle.ipc.specs.Format.{idEnd, torrentEnd, itemEnd, listPart, formatted}
-use Rattle.ipc.specs.Message.{thirdAt, messageAnswer}
-use Rattle.ipc.specs.Handshake.{rangeOf, integerOf, versionsAt, dictionaryVersions, handshakeAnswer}
-use Rattle.ipc.specs.Frame.{payloadAnswer, lengthAnswer, readFrame}
+use Rattle.ipc.specs.Message.{tailAt, messageReading}
+use Rattle.ipc.specs.Handshake.{rangeOf, integerOf, versionsAt, dictionaryVersions, handshakeReading}
+use Rattle.ipc.specs.Frame.{payloadReading, lengthReading, frameReading, readFrame}
 use Rattle.ipc.specs.Tries.{tries, FramesTried}
 
 pub frames-tried : FramesTried
-unfolding tries skipFrom itemAt readFrame lengthAnswer payloadAnswer ascii hexValue headerIn readHeader sized tagOf torrentIdOf listed numberFrom keyNumber classOf entryAt idEnd torrentEnd itemEnd listPart formatted thirdAt messageAnswer rangeOf integerOf versionsAt dictionaryVersions handshakeAnswer payloadAt valueAt scalarAt integerAt integerFrom numeralAt digits stringAt listFrom dictionaryFrom repeat keyFault isUsed isAbove same less
+unfolding tries frameReading skipFrom itemAt readFrame lengthReading payloadReading ascii hexValue headerIn readHeader sized tagOf torrentIdOf listed numberFrom keyNumber classOf entryAt idEnd torrentEnd itemEnd listPart formatted tailAt messageReading rangeOf integerOf versionsAt dictionaryVersions handshakeReading payloadAt valueAt scalarAt integerAt integerFrom numeralAt digits stringAt listFrom dictionaryFrom repeat keyFault isUsed isAbove same less
 frames-tried = refl

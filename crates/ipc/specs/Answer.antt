@@ -39,8 +39,8 @@ abbrev pub accepted : ℕ → ℕ → ℕ → Content → Answer
 accepted used k t v = record { code = 0; offset = 0; consumed = used; kind = message; key = k; tag = t; value = v }
 
 -- a handshake that is accepted
-abbrev pub agreed : ℕ → ℕ → ℕ → Answer
-agreed used low high = record { code = 0; offset = 0; consumed = used; kind = handshake; key = 0; tag = 0; value = versions low high }
+abbrev pub acceptedHandshake : ℕ → ℕ → ℕ → Answer
+acceptedHandshake used low high = record { code = 0; offset = 0; consumed = used; kind = handshake; key = 0; tag = 0; value = versions low high }
 
 -- a message whose value is off its key's format
 abbrev pub offFormat : ℕ → ℕ → Answer
@@ -61,7 +61,7 @@ contentOf (Value.Part at n) = part at n
 -- document 01's answer for each case of the reader's enum
 abbrev pub answerOf : Reading → Answer
 answerOf (Reading.Message m used) = accepted used (m .key) (tagNumber (m .tag)) (contentOf (m .value))
-answerOf (Reading.Handshake v used) = agreed used (v .min) (v .max)
+answerOf (Reading.Handshake v used) = acceptedHandshake used (v .min) (v .max)
 answerOf Reading.Incomplete = refused 1 0
 answerOf (Reading.NoDigit at) = refused 2 at
 answerOf Reading.OverProtocol = refused 3 0

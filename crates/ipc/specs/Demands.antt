@@ -2,16 +2,26 @@
 -- Assumes nothing.
 use Prim.Native.Nat.{ℕ, _+_, _*_, _≤_, _<_}
 use mathlib.Core.Path.{_≡_}
-use mathlib.Core.Logic.{_↔_}
+use mathlib.Core.Logic.{_↔_, _⊎_}
+use mathlib.Core.Bool.{true}
 use mathlib.Core.List.{List, [], _∷_, _++_}
-use lib.ListN.{length}
+use lib.ListN.{length, take}
 use Rattle.bencode.specs.declared.profile.Profile.{Profile}
+use Rattle.bencode.specs.Bytes.{part as bytesFrom}
 use Rattle.bencode.specs.Depth.{largestDepth}
+use Rattle.bencode.specs.Integer.{InRange}
 use Rattle.bencode.specs.Value.{Value, encode, WellFormed}
-use Rattle.ipc.specs.Answer.{Answer}
+use Rattle.ipc.specs.declared.keys.Class.{Class}
+use Rattle.ipc.specs.declared.write.Given.{Given}
+use Rattle.ipc.specs.declared.write.Written.{Written}
+use Rattle.ipc.specs.Answer.{Answer, Content, nothing, integer, text, part, versions, message, accepted, acceptedHandshake}
 use Rattle.ipc.specs.Header.{headerLength, largestPayload, hexValue}
 use Rattle.ipc.specs.Frame.{readFrame}
+use Rattle.ipc.specs.Hex.{upperHeader}
+use Rattle.ipc.specs.Keys.{classOf, isWritten}
 use Rattle.ipc.specs.Meaning.{meaning}
+use Rattle.ipc.specs.Write.{payloadOf, frameOf, writeAnswer}
+use Rattle.ipc.specs.Greeting.{handshakePayload, handshakeWritten}
 
 -- bytes that are hex digits of either case
 pub data HexDigits : List ℕ → Type 0 where
@@ -40,6 +50,49 @@ pub record Framed (s : List ℕ) (a : Answer) : Type 0 where
 abbrev pub AnswersMeaning : Type 0
 AnswersMeaning = (s : List ℕ) (a : Answer) → Framed s a → readFrame s ≡ a
 
--- what is accepted is what the grammar accepts: with the same values, and nothing else
+-- what is accepted, and what is refused by 20 to 22, is what the grammar says: with the same values, and nothing else
 abbrev pub AcceptsExactly : Type 0
-AcceptsExactly = (s : List ℕ) (a : Answer) → a .code ≡ 0 → (readFrame s ≡ a) ↔ Framed s a
+AcceptsExactly = (s : List ℕ) (a : Answer) → (a .code ≡ 0) ⊎ (20 ≤ a .code) → (readFrame s ≡ a) ↔ Framed s a
+
+-- ---- writing
+-- an integer that is handed in fits the machine's 64 bits
+abbrev pub GivenFits : Given → Type 0
+GivenFits Given.Nothing = Unit {0}
+GivenFits (Given.Integer z) = InRange z
+GivenFits Given.Bytes = Unit {0}
+
+-- the content that a frame's reader names is the value that was handed in
+abbrev pub Named : List ℕ → Given → List ℕ → Content → Type 0
+Named frame Given.Nothing s c = c ≡ nothing
+Named frame (Given.Integer z) s c = c ≡ integer z
+Named frame Given.Bytes s c = (at : ℕ) × ((c ≡ text at (length s)) ⊎ (c ≡ part at (length s))) × (bytesFrom frame at (at + length s) ≡ s)
+
+-- each frame written reads back as its record, whatever follows it
+abbrev pub ReadsBack : Type 0
+ReadsBack = (key tag room n : ℕ) (given : Given) (s rest : List ℕ) → GivenFits given → writeAnswer key given s tag room ≡ Written.Count n
+    → (c : Content) × (readFrame (frameOf (payloadOf key given s tag) ++ rest) ≡ accepted n key tag c) × Named (frameOf (payloadOf key given s tag)) given s c
+
+-- each handshake written reads back as its range
+abbrev pub HandshakeReadsBack : Type 0
+HandshakeReadsBack = (low high room n : ℕ) (rest : List ℕ) → handshakeWritten low high room ≡ Written.Count n → readFrame (frameOf (handshakePayload low high) ++ rest) ≡ acceptedHandshake n low high
+
+-- the value to hand in for what a reader named, and the bytes of it
+abbrev pub givenOf : Content → Given
+givenOf nothing = Given.Nothing
+givenOf (integer z) = Given.Integer z
+givenOf (text at n) = Given.Bytes
+givenOf (part at n) = Given.Bytes
+givenOf (versions low high) = Given.Nothing
+
+abbrev pub bytesOf : List ℕ → Content → List ℕ
+bytesOf f nothing = []
+bytesOf f (integer z) = []
+bytesOf f (text at n) = bytesFrom f at (at + n)
+bytesOf f (part at n) = bytesFrom f at (at + n)
+bytesOf f (versions low high) = []
+
+-- an accepted frame of a key that is written, unless its value is ignored, is written again, given room, as the same bytes but for the case of hex letters
+abbrev pub WritesBack : Type 0
+WritesBack = (f : List ℕ) (a : Answer) (room : ℕ) → readFrame f ≡ a → a .code ≡ 0 → a .kind ≡ message → isWritten (a .key) ≡ true → (classOf (a .key) ≡ Class.Ignored → ⊥) → a .consumed ≤ room
+    → (writeAnswer (a .key) (givenOf (a .value)) (bytesOf f (a .value)) (a .tag) room ≡ Written.Count (a .consumed))
+    × (frameOf (payloadOf (a .key) (givenOf (a .value)) (bytesOf f (a .value)) (a .tag)) ≡ upperHeader (take (a .consumed) f))

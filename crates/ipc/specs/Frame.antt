@@ -11,37 +11,42 @@ use Rattle.bencode.specs.Bytes.{letterD, letterL, byteAt, part}
 use Rattle.bencode.specs.Walk.{payloadAt}
 use Rattle.ipc.specs.declared.header.Header.{Header}
 use Rattle.ipc.specs.declared.header.Sized.{Sized}
-use Rattle.ipc.specs.Answer.{Answer, refused}
+use Rattle.ipc.specs.declared.reading.Reading.{Reading}
+use Rattle.ipc.specs.Answer.{Answer, answerOf}
 use Rattle.ipc.specs.Header.{headerLength, readHeader, sized}
-use Rattle.ipc.specs.Message.{messageAnswer}
-use Rattle.ipc.specs.Handshake.{handshakeAnswer}
+use Rattle.ipc.specs.Message.{messageReading}
+use Rattle.ipc.specs.Handshake.{handshakeReading}
 
--- the answer for one bencoded value, by its first byte
-abbrev pub byKind : List ℕ → Answer
-byKind p = cond (eqb (byteAt p 0) letterD) (handshakeAnswer p) (cond (eqb (byteAt p 0) letterL) (messageAnswer p) (refused 20 0))
+-- what is read of one bencoded value, by its first byte
+abbrev pub byKind : List ℕ → Reading
+byKind p = cond (eqb (byteAt p 0) letterD) (handshakeReading p) (cond (eqb (byteAt p 0) letterL) (messageReading p) Reading.NoMessage)
 
-abbrev pub walked : List ℕ → Walk → Answer
+abbrev pub walked : List ℕ → Walk → Reading
 walked p (Walk.End end) = byKind p
-walked p (Walk.Fault f) = refused (f .code) (f .offset)
+walked p (Walk.Fault f) = Reading.Payload f
 
--- the answer for a payload
-unfoldable pub payloadAnswer : List ℕ → Answer
-payloadAnswer p = walked p (payloadAt Profile.Loose p)
+-- what is read of a payload
+unfoldable pub payloadReading : List ℕ → Reading
+payloadReading p = walked p (payloadAt Profile.Loose p)
 
--- the answer for a frame whose payload has a length
-unfoldable pub lengthAnswer : List ℕ → ℕ → Answer
-lengthAnswer s n = cond (leb (headerLength + n) (length s)) (payloadAnswer (part s headerLength (headerLength + n))) (refused 1 0)
+-- what is read of a frame whose payload has a length
+unfoldable pub lengthReading : List ℕ → ℕ → Reading
+lengthReading s n = cond (leb (headerLength + n) (length s)) (payloadReading (part s headerLength (headerLength + n))) Reading.Incomplete
 
-abbrev pub bySize : List ℕ → Sized → Answer
-bySize s (Sized.Length n) = lengthAnswer s (n .0)
-bySize s Sized.OverLimit = refused 4 0
-bySize s Sized.OverProtocol = refused 3 0
+abbrev pub bySize : List ℕ → Sized → Reading
+bySize s (Sized.Length n) = lengthReading s (n .0)
+bySize s Sized.OverLimit = Reading.OverLimit
+bySize s Sized.OverProtocol = Reading.OverProtocol
 
-abbrev pub byHeader : List ℕ → Header → Answer
+abbrev pub byHeader : List ℕ → Header → Reading
 byHeader s (Header.Length n) = bySize s (sized n)
-byHeader s (Header.NoDigit at) = refused 2 at
-byHeader s Header.Short = refused 1 0
+byHeader s (Header.NoDigit at) = Reading.NoDigit at
+byHeader s Header.Short = Reading.Incomplete
 
--- the answer for the frame at the front of bytes
+-- what is read of the frame at the front of bytes
+unfoldable pub frameReading : List ℕ → Reading
+frameReading s = byHeader s (readHeader s)
+
+-- the answer to it, as document 01 has it
 unfoldable pub readFrame : List ℕ → Answer
-readFrame s = byHeader s (readHeader s)
+readFrame s = answerOf (frameReading s)

@@ -13,8 +13,8 @@ use Rattle.bencode.specs.Bytes.{letterD, byteAt}
 use Rattle.bencode.specs.Fault.{fault}
 use Rattle.bencode.specs.Integer.{integerAt}
 use Rattle.bencode.specs.Entry.{entryAt}
+use Rattle.ipc.specs.declared.reading.Reading.{Reading}
 use Rattle.ipc.specs.declared.versions.OptionalVersions.{OptionalVersions}
-use Rattle.ipc.specs.Answer.{Answer, refused, agreed}
 use Rattle.ipc.specs.Ascii.{ascii}
 use Rattle.ipc.specs.Header.{headerLength}
 
@@ -58,10 +58,10 @@ entryVersions p Entry.Missing = OptionalVersions.None
 unfoldable pub dictionaryVersions : List ℕ → OptionalVersions
 dictionaryVersions p = entryVersions p (entryAt p (ascii "version") 1)
 
-abbrev pub greeted : List ℕ → OptionalVersions → Answer
-greeted p (OptionalVersions.Range v) = agreed (headerLength + length p) (v .min) (v .max)
-greeted p OptionalVersions.None = refused 21 0
+abbrev pub handshakeOf : List ℕ → OptionalVersions → Reading
+handshakeOf p (OptionalVersions.Range v) = Reading.Handshake v (headerLength + length p)
+handshakeOf p OptionalVersions.None = Reading.NoHandshake
 
--- the answer for a payload that is a dictionary
-unfoldable pub handshakeAnswer : List ℕ → Answer
-handshakeAnswer p = greeted p (dictionaryVersions p)
+-- what is read of a payload that is a dictionary
+unfoldable pub handshakeReading : List ℕ → Reading
+handshakeReading p = handshakeOf p (dictionaryVersions p)

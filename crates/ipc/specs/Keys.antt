@@ -93,3 +93,7 @@ classOf number = listedAt number .class
 -- is a key written here
 unfoldable pub isWritten : ℕ → Bool
 isWritten number = listedAt number .written
+
+-- the text of the key with a number
+unfoldable pub keyText : ℕ → List ℕ
+keyText key = ascii (listedAt key .name)

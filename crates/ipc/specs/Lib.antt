@@ -7,6 +7,9 @@ pub mod Format
 pub mod Message
 pub mod Handshake
 pub mod Frame
+pub mod Hex
+pub mod Write
+pub mod Greeting
 pub mod Meaning
 pub mod Tries
 pub mod Demands

@@ -9,9 +9,9 @@ use Rattle.bencode.specs.Value.{Value, integer, string, list, dictionary, Value
 use Rattle.ipc.specs.declared.keys.Class.{Class}
 use Rattle.ipc.specs.declared.ids.OptionalTag.{OptionalTag}
 use Rattle.ipc.specs.declared.format.Checked.{Checked}
-use Rattle.ipc.specs.declared.reading.Value.{Value as Held}
+use Rattle.ipc.specs.declared.reading.Value.{Value as MessageValue}
 use Rattle.ipc.specs.declared.versions.OptionalVersions.{OptionalVersions}
-use Rattle.ipc.specs.Answer.{Answer, refused, accepted, agreed, offFormat, tagNumber, contentOf}
+use Rattle.ipc.specs.Answer.{Answer, refused, accepted, acceptedHandshake, offFormat, tagNumber, contentOf}
 use Rattle.ipc.specs.Ascii.{ascii}
 use Rattle.ipc.specs.Header.{headerLength}
 use Rattle.ipc.specs.Ids.{largestId, within, tagOf}
@@ -52,12 +52,12 @@ every ok no-value = true
 every ok (value v vs) = ok v && every ok vs
 
 -- a value as the part of the frame that it is, where it stands at an offset of the payload
-abbrev pub wholeAt : ℕ → Value → Held
-wholeAt at x = Held.Part (headerLength + at) (length (encode x))
+abbrev pub wholeAt : ℕ → Value → MessageValue
+wholeAt at x = MessageValue.Part (headerLength + at) (length (encode x))
 
 -- an integer that passes a test
 abbrev pub asInteger : (ℤ → Bool) → Value → Checked
-asInteger ok (integer z) = cond (ok z) (Checked.Value (Held.Integer z)) Checked.Off
+asInteger ok (integer z) = cond (ok z) (Checked.Value (MessageValue.Integer z)) Checked.Off
 asInteger ok (string text) = Checked.Off
 asInteger ok (list vs) = Checked.Off
 asInteger ok (dictionary es) = Checked.Off
@@ -65,7 +65,7 @@ asInteger ok (dictionary es) = Checked.Off
 -- a string's text, which is the end of its encoding
 abbrev pub asText : ℕ → Value → Checked
 asText at (integer z) = Checked.Off
-asText at (string text) = Checked.Value (Held.Text (headerLength + ((at + length (encodeString text)) - length text)) (length text))
+asText at (string text) = Checked.Value (MessageValue.Text (headerLength + ((at + length (encodeString text)) - length text)) (length text))
 asText at (list vs) = Checked.Off
 asText at (dictionary es) = Checked.Off
 
@@ -80,7 +80,7 @@ asList ok at (dictionary es) = Checked.Off
 abbrev pub judged : Class → ℕ → Value → Checked
 judged Class.Unlisted at x = Checked.Value (wholeAt at x)
 judged Class.Boolean at x = asInteger (within 0 1) x
-judged Class.Ignored at x = Checked.Value Held.Nothing
+judged Class.Ignored at x = Checked.Value MessageValue.Nothing
 judged Class.Text at x = asText at x
 judged Class.Integer at x = asInteger (λ z. true) x
 judged Class.TextList at x = asList isText at x
@@ -147,13 +147,13 @@ versionsOf (found (string text)) = OptionalVersions.None
 versionsOf (found (list vs)) = OptionalVersions.None
 versionsOf (found (dictionary es)) = rangeFrom (lookup (ascii "min") es) (lookup (ascii "max") es)
 
-abbrev pub greetingOf : ℕ → OptionalVersions → Answer
-greetingOf used (OptionalVersions.Range v) = agreed used (v .min) (v .max)
-greetingOf used OptionalVersions.None = refused 21 0
+abbrev pub versionsAnswer : ℕ → OptionalVersions → Answer
+versionsAnswer used (OptionalVersions.Range v) = acceptedHandshake used (v .min) (v .max)
+versionsAnswer used OptionalVersions.None = refused 21 0
 
 -- the answer to a payload that is the encoding of a value
 abbrev pub meaning : ℕ → Value → Answer
 meaning used (integer z) = refused 20 0
 meaning used (string text) = refused 20 0
 meaning used (list vs) = listOf used vs
-meaning used (dictionary es) = greetingOf used (versionsOf (lookup (ascii "version") es))
+meaning used (dictionary es) = versionsAnswer used (versionsOf (lookup (ascii "version") es))

@@ -1,9 +1,10 @@
 -- Document 01's frames to try that are marked P, in one table with a single statement.
 -- Assumes nothing.
 use Prim.Native.String.{String}
+use lib.IntN.{pos}
 use mathlib.Core.Path.{_≡_}
 use mathlib.Core.List.{List, [], _∷_, map}
-use Rattle.ipc.specs.Answer.{Answer, part, refused, accepted, agreed, offFormat}
+use Rattle.ipc.specs.Answer.{Answer, integer, part, refused, accepted, acceptedHandshake, offFormat}
 use Rattle.ipc.specs.Ascii.{ascii}
 use Rattle.ipc.specs.Frame.{readFrame}
 
@@ -21,7 +22,7 @@ tries =
     try "00000000" (refused 5 0) ∷
     try "7FFFFFF8" (refused 4 0) ∷
     try "7FFFFFF9" (refused 3 0) ∷
-    try "0000001dd7:versiond3:mini1e3:maxi2eee" (agreed 37 1 2) ∷
+    try "0000001dd7:versiond3:mini1e3:maxi2eee" (acceptedHandshake 37 1 2) ∷
     try "00000010l5:startli8eei15ee" (refused 5 16) ∷
     try "00000012l5:startli8eei15ee" (accepted 26 16 15 (part 16 5)) ∷
     try "00000004i-0e" (refused 5 2) ∷
@@ -29,6 +30,7 @@ tries =
     try "00000015i9223372036854775808e" (refused 6 0) ∷
     try "0000000Ed1:ai1e1:ai2ee" (refused 8 7) ∷
     try "0000000Fl4:porti65536ee" (offFormat 14 0) ∷
+    try "0000000Fl4:porti65535ee" (accepted 23 14 0 (integer (pos 65535))) ∷
     []
 
 -- the statement of the proved set: each frame has its answer

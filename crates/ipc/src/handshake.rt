@@ -3,8 +3,7 @@ ghost use mathlib.Core.Path.{_≡_};
 ghost use Prim.Native.Nat.{_≤_};
 ghost use lib.ListN.{length};
 ghost use Rattle.ipc.specs.Header.{largestPayload};
-ghost use Rattle.ipc.specs.Answer.{answerOf};
-ghost use Rattle.ipc.specs.Handshake.{integerOf, between, versionsAt, dictionaryVersions, handshakeAnswer};
+ghost use Rattle.ipc.specs.Handshake.{integerOf, between, versionsAt, dictionaryVersions, handshakeReading};
 use super::header::HEADER_LENGTH;
 use super::reading::Reading;
 use super::versions::OptionalVersions;
@@ -66,7 +65,7 @@ fn versions_of(p: &[u8]) -> OptionalVersions
 // The answer for a payload that is a dictionary.
 pub fn handshake(p: &[u8]) -> Reading
     requires { ⌜ length (now p) ≤ largestPayload ⌝ }
-    ensures { λ r. ⌜ answerOf r ≡ handshakeAnswer (now (p .entry)) ⌝ }
+    ensures { λ r. ⌜ r ≡ handshakeReading (now (p .entry)) ⌝ }
 {
     match versions_of(p) {
         OptionalVersions::Range(versions) => Reading::Handshake {

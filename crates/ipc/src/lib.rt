@@ -8,3 +8,4 @@ mod message;
 pub mod read;
 pub mod reading;
 pub mod versions;
+pub mod write;

@@ -3,8 +3,7 @@ ghost use mathlib.Core.Path.{_≡_};
 ghost use Prim.Native.Nat.{_≤_};
 ghost use lib.ListN.{length};
 ghost use Rattle.ipc.specs.Header.{largestPayload};
-ghost use Rattle.ipc.specs.Answer.{answerOf};
-ghost use Rattle.ipc.specs.Message.{thirdAt, valued, thirdly, messageAnswer};
+ghost use Rattle.ipc.specs.Message.{tailAt, valued, fromTag, messageReading};
 use super::format::Checked;
 use super::format::check_value;
 use super::header::HEADER_LENGTH;
@@ -23,35 +22,35 @@ use bencode::string::Text;
 use bencode::string::string;
 
 // What stands after a message's value: a tag or none, and then the list's end; or something else.
-pub enum Third {
+pub enum Tail {
     Tag(OptionalTag),
     Other,
 }
 
-fn tag_at(p: &[u8], at: usize) -> Third
-    ensures { λ r. ⌜ r ≡ thirdAt (now (p .entry)) at ⌝ }
+fn tag_at(p: &[u8], at: usize) -> Tail
+    ensures { λ r. ⌜ r ≡ tailAt (now (p .entry)) at ⌝ }
 {
     if byte_at(p, at) == b'e' {
-        return Third::Tag(OptionalTag::None);
+        return Tail::Tag(OptionalTag::None);
     }
     match integer(p, at) {
         Number::Integer { value, end } => match Tag::new(value) {
             OptionalTag::Tag(t) => {
                 if byte_at(p, end) == b'e' {
-                    return Third::Tag(OptionalTag::Tag(t));
+                    return Tail::Tag(OptionalTag::Tag(t));
                 }
-                Third::Other
+                Tail::Other
             }
-            OptionalTag::None => Third::Other,
+            OptionalTag::None => Tail::Other,
         },
-        Number::Fault(_) => Third::Other,
+        Number::Fault(_) => Tail::Other,
     }
 }
 
 // The answer for a value that is in its format, or off it.
 fn answer(p: &[u8], key: u8, tag: OptionalTag, checked: Checked) -> Reading
     requires { ⌜ length (now p) ≤ largestPayload ⌝ }
-    ensures { λ r. ⌜ answerOf r ≡ valued (now (p .entry)) key tag checked ⌝ }
+    ensures { λ r. ⌜ r ≡ valued (now (p .entry)) key tag checked ⌝ }
 {
     match checked {
         Checked::Value(value) => Reading::Message {
@@ -65,18 +64,18 @@ fn answer(p: &[u8], key: u8, tag: OptionalTag, checked: Checked) -> Reading
 // The answer for the key with a number and the value from an offset up to another.
 fn keyed(p: &[u8], key: u8, at: usize, end: usize) -> Reading
     requires { ⌜ (at ≤ end) × (end ≤ length (now p)) × (length (now p) ≤ largestPayload) ⌝ }
-    ensures { λ r. ⌜ answerOf r ≡ thirdly (now (p .entry)) key at end (thirdAt (now (p .entry)) end) ⌝ }
+    ensures { λ r. ⌜ r ≡ fromTag (now (p .entry)) key at end (tailAt (now (p .entry)) end) ⌝ }
 {
     match tag_at(p, end) {
-        Third::Tag(tag) => answer(p, key, tag, check_value(p, class_of(key), at, end)),
-        Third::Other => Reading::NoMessage,
+        Tail::Tag(tag) => answer(p, key, tag, check_value(p, class_of(key), at, end)),
+        Tail::Other => Reading::NoMessage,
     }
 }
 
 // The answer for a payload that is a list.
 pub fn message(p: &[u8]) -> Reading
     requires { ⌜ length (now p) ≤ largestPayload ⌝ }
-    ensures { λ r. ⌜ answerOf r ≡ messageAnswer (now (p .entry)) ⌝ }
+    ensures { λ r. ⌜ r ≡ messageReading (now (p .entry)) ⌝ }
 {
     match string(p, 1) {
         Text::Bytes { start, end } => match item_at(p, end) {

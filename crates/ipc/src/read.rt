@@ -4,7 +4,7 @@ ghost use Prim.Native.Nat.{_≤_};
 ghost use lib.ListN.{length};
 ghost use Rattle.ipc.specs.Header.{largestPayload};
 ghost use Rattle.ipc.specs.Answer.{answerOf};
-ghost use Rattle.ipc.specs.Frame.{payloadAnswer, lengthAnswer, readFrame};
+ghost use Rattle.ipc.specs.Frame.{payloadReading, lengthReading, frameReading, readFrame};
 use super::handshake::handshake;
 use super::header::HEADER_LENGTH;
 use super::header::Header;
@@ -21,7 +21,7 @@ use bencode::walk::payload;
 // The answer for a payload.
 fn read_payload(p: &[u8]) -> Reading
     requires { ⌜ length (now p) ≤ largestPayload ⌝ }
-    ensures { λ r. ⌜ answerOf r ≡ payloadAnswer (now (p .entry)) ⌝ }
+    ensures { λ r. ⌜ r ≡ payloadReading (now (p .entry)) ⌝ }
 {
     match payload(p, Profile::Loose) {
         Walk::Fault(f) => Reading::Payload(f),
@@ -41,7 +41,7 @@ fn read_payload(p: &[u8]) -> Reading
 // The answer for a frame whose payload has a length.
 fn read_length(s: &[u8], length: PayloadLength) -> Reading
     requires { ⌜ length .0 ≤ largestPayload ⌝ }
-    ensures { λ r. ⌜ answerOf r ≡ lengthAnswer (now (s .entry)) (length .0) ⌝ }
+    ensures { λ r. ⌜ r ≡ lengthReading (now (s .entry)) (length .0) ⌝ }
 {
     let end = HEADER_LENGTH + length.number() as usize;
     if s.len() < end {
@@ -52,6 +52,7 @@ fn read_length(s: &[u8], length: PayloadLength) -> Reading
 
 // Reads the frame at the front of the bytes. Bytes after it are left for the next read.
 pub fn read(s: &[u8]) -> Reading
+    ensures { λ r. ⌜ r ≡ frameReading (now (s .entry)) ⌝ }
     ensures { λ r. ⌜ answerOf r ≡ readFrame (now (s .entry)) ⌝ }
 {
     match read_header(s) {

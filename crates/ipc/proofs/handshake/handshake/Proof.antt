@@ -3,7 +3,7 @@
 use mathlib.Core.Path.{sym, ap, _∙_}
 use borrow.Author.Needs.{needs}
 use Rattle.ipc.specs.declared.versions.OptionalVersions.{OptionalVersions}
-use Rattle.ipc.specs.Handshake.{greeted, handshakeAnswer}
+use Rattle.ipc.specs.Handshake.{handshakeOf, handshakeReading}
 use Rattle.ipc.proofs.handshake.handshake.Statement.{statement}
 use Rattle.ipc.proofs.handshake.handshake.Tie as tie
 
@@ -20,12 +20,12 @@ enum-told : tie.Need-enum-told
 enum-told c = search needs
 
 returns : tie.Need-returns
-unfolding handshakeAnswer
-returns c = ap (λ (v : OptionalVersions). greeted (c .before .before .before .before .before .args .p .now) v) (sym (c .before .versions .given .1) ∙ c .before .before .before .versions-of .ensures)
+unfolding handshakeReading
+returns c = ap (λ (v : OptionalVersions). handshakeOf (c .before .before .before .before .before .args .p .now) v) (sym (c .before .versions .given .1) ∙ c .before .before .before .versions-of .ensures)
 
 returns-2 : tie.Need-returns-2
-unfolding handshakeAnswer
-returns-2 c = ap (λ (v : OptionalVersions). greeted (c .before .before .before .before .args .p .now) v) (sym (c .enum-told .given .1) ∙ c .before .before .versions-of .ensures)
+unfolding handshakeReading
+returns-2 c = ap (λ (v : OptionalVersions). handshakeOf (c .before .before .before .before .args .p .now) v) (sym (c .enum-told .given .1) ∙ c .before .before .versions-of .ensures)
 
 pub handshake-spec : {M : Type 1} → statement M
 handshake-spec =

@@ -8,7 +8,7 @@ use Rattle.bencode.specs.declared.string.Text.{Text}
 use Rattle.bencode.specs.String.{stringAt}
 use Rattle.bencode.proofs.Ends.{string-whole-inv}
 use Rattle.bencode.proofs.ItemLaws.{item-past}
-use Rattle.ipc.specs.Message.{thirdAt, thirdly}
+use Rattle.ipc.specs.Message.{tailAt, fromTag}
 use Rattle.ipc.proofs.MessageLaws.{message-no-key, message-no-value, message-keyed}
 use Rattle.ipc.proofs.message.message.Statement.{statement}
 use Rattle.ipc.proofs.message.message.Tie as tie
@@ -72,7 +72,7 @@ returns c =
     let p = c .before .before .before .before .before .before .before .before .before .before .before .before .args .p .now in
     let k = c .before .before .before .before .before .before .before .before .start .given in
     let text : stringAt p 1 ≡ Text.Bytes (k .0 .0) (k .0 .1 .0) = sym (c .before .before .before .before .before .before .before .before .before .before .string .ensures) ∙ k .1 in
-    c .keyed .ensures ∙ ap (λ (n : ℕ). thirdly p n (k .0 .1 .0) (c .before .before .before .before .e .given .0 .0) (thirdAt p (c .before .before .before .before .e .given .0 .0))) (c .before .key-number .ensures) ∙ message-keyed p (k .0 .0) (k .0 .1 .0) text (c .before .before .before .before .e .given .0 .0) (sym (c .before .before .before .before .before .before .item-at .ensures) ∙ c .before .before .before .before .e .given .1)
+    c .keyed .ensures ∙ ap (λ (n : ℕ). fromTag p n (k .0 .1 .0) (c .before .before .before .before .e .given .0 .0) (tailAt p (c .before .before .before .before .e .given .0 .0))) (c .before .key-number .ensures) ∙ message-keyed p (k .0 .0) (k .0 .1 .0) text (c .before .before .before .before .e .given .0 .0) (sym (c .before .before .before .before .before .before .item-at .ensures) ∙ c .before .before .before .before .e .given .1)
 
 returns-2 : tie.Need-returns-2
 returns-2 c =

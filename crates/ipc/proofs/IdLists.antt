@@ -1,0 +1,143 @@
+-- Bytes that are a list of torrent IDs are the encoding of a list of values that are torrent IDs.
+-- Assumes nothing.
+use Prim.Native.Nat.{ℕ, zero, suc, _+_, _-_}
+use mathlib.Core.Path.{_≡_, refl, sym, ap, _∙_}
+use mathlib.Core.Bool.{Bool, true, false, cond, _&&_}
+use mathlib.Core.List.{List, [], append-nil}
+use native.Mathlib.Omega.{arith}
+use borrow.Author.Tests.{eqb-true, eq-eqb}
+use lib.Dec.{eqb}
+use lib.IntN.{ℤ}
+use lib.ListN.{length}
+use Rattle.bencode.specs.declared.fault.Fault.{Fault}
+use Rattle.bencode.specs.declared.fault.Walk.{Walk}
+use Rattle.bencode.specs.declared.integer.Number.{Number}
+use Rattle.bencode.specs.declared.profile.Profile.{Profile}
+use Rattle.bencode.specs.Bytes.{letterL, byteAt, Begins}
+use Rattle.bencode.specs.Depth.{largestDepth}
+use Rattle.bencode.specs.Fault.{fault}
+use Rattle.bencode.specs.Integer.{integerAt}
+use Rattle.bencode.specs.Loop.{done, after, repeat}
+use Rattle.bencode.specs.Scalar.{scalarAt}
+use Rattle.bencode.specs.Value.{Value, integer, string, list, dictionary, Values, no-value, value, encode, All, WellFormed}
+use Rattle.bencode.specs.Walk.{onward, listStep, listFrom, valueAt, payloadAt}
+use Rattle.bencode.proofs.Ends.{SignedInteger, plus, minus, integer-inv}
+use Rattle.bencode.proofs.Grammar.{accepts-exactly}
+use Rattle.bencode.proofs.Lookups.{starts}
+use Rattle.bencode.proofs.Order.{clash}
+use Rattle.bencode.proofs.WalkLaws.{value-scalar, value-list}
+use Rattle.ipc.specs.declared.format.Items.{Items}
+use Rattle.ipc.specs.declared.ids.OptionalId.{OptionalId}
+use Rattle.ipc.specs.Format.{idThen, idNumber, idEnd, itemEnd, itemsEnd}
+use Rattle.ipc.specs.Ids.{torrentIdOf}
+use Rattle.ipc.specs.Meaning.{isId, every}
+use Rattle.ipc.specs.Write.{endsAt, isIdList}
+use Rattle.ipc.proofs.Inverts.{and-left, and-right}
+use Rattle.ipc.proofs.Means.{Good, Judge, good-list, items-begin, items-mean}
+
+-- ---- a torrent ID is a value
+-- an integer begins with `i`
+integer-first : (p : List ℕ) (at : ℕ) (z : ℤ) (end : ℕ) → SignedInteger p at z end → byteAt p at ≡ 105
+integer-first p at z end (plus b w) = b
+integer-first p at z end (minus b c d w) = b
+
+integer-value : (levels : ℕ) (p : List ℕ) (at : ℕ) (z : ℤ) (end : ℕ) → integerAt p at ≡ Number.Integer z end → valueAt Profile.Loose levels p at ≡ Walk.End end
+unfolding scalarAt
+integer-value levels p at z end e =
+    let first : byteAt p at ≡ 105 = integer-first p at z end (integer-inv p at z end e) in
+    sym (value-scalar Profile.Loose levels p at (λ q. omega arith) (λ q. omega arith)) ∙ rw (eq-eqb (byteAt p at) 105 first, e) refl
+
+id-value : (levels : ℕ) (p : List ℕ) (at end : ℕ) → itemEnd Items.Ids p at ≡ Walk.End end → valueAt Profile.Loose levels p at ≡ Walk.End end
+unfolding itemEnd idEnd
+id-value levels p at end e = go (integerAt p at) refl e
+  where
+    known : (z : ℤ) (k : ℕ) → integerAt p at ≡ Number.Integer z k → (id : OptionalId) → idThen at k id ≡ Walk.End end → valueAt Profile.Loose levels p at ≡ Walk.End end
+    known z k q (OptionalId.Id id) e = integer-value levels p at z k q ∙ e
+    known z k q OptionalId.None e = let n : _≡_ {A = ℕ} 0 1 = cc in absurd (omega arith)
+
+    go : (n : Number) → integerAt p at ≡ n → idNumber at n ≡ Walk.End end → valueAt Profile.Loose levels p at ≡ Walk.End end
+    go (Number.Integer z k) q e = known z k q (torrentIdOf z) e
+    go (Number.Fault f) q e = let n : _≡_ {A = ℕ} 0 1 = cc in absurd (omega arith)
+
+-- ---- a list of them is a value
+module _ (p : List ℕ) (item other : ℕ → Walk) (each : (at end : ℕ) → item at ≡ Walk.End end → other at ≡ Walk.End end) (f : Fault) (end : ℕ) where
+  -- the same steps, where each item ends as it does for another walker of items
+  steps-same : (n at : ℕ) → repeat (listStep item p) (Walk.Fault f) n at tt ≡ Walk.End end → repeat (listStep other p) (Walk.Fault f) n at tt ≡ Walk.End end
+  unfolding repeat
+  steps-same zero at e = e
+  steps-same (suc n) at e = go (eqb (byteAt p at) 101) (item at) refl e (λ to q. steps-same n to q)
+    where
+      go : (t : Bool) (w : Walk) → item at ≡ w → after (cond t (done (Walk.End (at + 1))) (onward w tt)) (λ to y. repeat (listStep item p) (Walk.Fault f) n to y) ≡ Walk.End end
+          → ((to : ℕ) → repeat (listStep item p) (Walk.Fault f) n to tt ≡ Walk.End end → repeat (listStep other p) (Walk.Fault f) n to tt ≡ Walk.End end)
+          → after (cond t (done (Walk.End (at + 1))) (onward (other at) tt)) (λ to y. repeat (listStep other p) (Walk.Fault f) n to y) ≡ Walk.End end
+      go true w q e rec = e
+      go false (Walk.End k) q e rec = rw (each at k q) (rec k e)
+      go false (Walk.Fault g) q e rec = let z : _≡_ {A = ℕ} 0 1 = cc in absurd (omega arith)
+
+ids-value : (p : List ℕ) (end : ℕ) → byteAt p 0 ≡ letterL → itemsEnd Items.Ids p 1 ≡ Walk.End end → valueAt Profile.Loose largestDepth p 0 ≡ Walk.End end
+unfolding listFrom
+ids-value p end b e =
+    sym (value-list Profile.Loose largestDepth 15 p 0 refl b)
+    ∙ steps-same p (itemEnd Items.Ids p) (valueAt Profile.Loose 15 p) (id-value 15 p) (fault 5 1) end (suc (length p - 1)) 1 e
+
+ids-payload : (p : List ℕ) → byteAt p 0 ≡ letterL → itemsEnd Items.Ids p 1 ≡ Walk.End (length p) → payloadAt Profile.Loose p ≡ Walk.End (length p)
+unfolding payloadAt
+ids-payload p b e = rw (ids-value p (length p) b e, eq-eqb (length p) (length p) refl) refl
+
+-- ---- which values it holds
+-- some bytes are the encoding of a list of torrent IDs
+pub record IdList (s : List ℕ) : Type 0 where
+  pub ids : Values
+  pub formed : WellFormed Profile.Loose 15 (list ids)
+  pub each : every isId ids ≡ true
+  pub is : s ≡ encode (list ids)
+
+-- integers are well formed at any level
+id-formed : (levels : ℕ) (v : Value) → Good v → isId v ≡ true → WellFormed Profile.Loose levels v
+id-formed zero (integer z) g e = g
+id-formed (suc levels) (integer z) g e = g
+id-formed levels (string text) g e = clash false e refl
+id-formed levels (list vs) g e = clash false e refl
+id-formed levels (dictionary es) g e = clash false e refl
+
+ids-formed : (levels : ℕ) (vs : Values) → All Good vs → every isId vs ≡ true → All (WellFormed Profile.Loose levels) vs
+ids-formed levels no-value g e = tt
+ids-formed levels (value v vs) g e = (id-formed levels v (g .0) (and-left (isId v) (every isId vs) e), ids-formed levels vs (g .1) (and-right (isId v) (every isId vs) e))
+
+-- a walk that ends is one of items that pass the test
+judge-true : (t : Bool) (w : Walk) (e : ℕ) → Judge t w e → w ≡ Walk.End e → t ≡ true
+judge-true true w e j q = refl
+judge-true false w e j q =
+    let f : Walk.Fault (j .0) ≡ Walk.End e = sym (j .1) ∙ q in
+    let z : _≡_ {A = ℕ} 0 1 = cc in
+    absurd (omega arith)
+
+all-begins : (s x : List ℕ) → s ≡ x → Begins s 0 x (length s)
+all-begins s x e = record { rest = []; is = e ∙ sym (append-nil x); ends = omega (arith, ap length e) }
+
+each-id : (s : List ℕ) (vs : Values) → Good (list vs) → Begins s 0 (encode (list vs)) (length s) → itemsEnd Items.Ids s 1 ≡ Walk.End (length s) → every isId vs ≡ true
+each-id s vs g b e = judge-true (every isId vs) (itemsEnd Items.Ids s 1) (length s) (items-mean s Items.Ids vs 1 (length s) (good-list vs g) (items-begin s 0 (length s) vs b)) e
+
+ids-encoded : (s : List ℕ) → byteAt s 0 ≡ letterL → itemsEnd Items.Ids s 1 ≡ Walk.End (length s) → IdList s
+ids-encoded s first e =
+    let r = accepts-exactly Profile.Loose s .0 (ids-payload s first e) in
+    kinds (r .0) (r .1) (r .2) (all-begins s (encode (r .0)) (r .2))
+  where
+    kinds : (v : Value) → Good v → s ≡ encode v → Begins s 0 (encode v) (length s) → IdList s
+    kinds (integer z) g q b = absurd (omega (arith, starts (integer z) s 0 (length s) b))
+    kinds (string text) g q b = absurd (omega (arith, starts (string text) s 0 (length s) b))
+    kinds (list vs) g q b = record { ids = vs; formed = ids-formed 14 vs (good-list vs g) (each-id s vs g b e); each = each-id s vs g b e; is = q }
+    kinds (dictionary es) g q b = absurd (omega (arith, starts (dictionary es) s 0 (length s) b))
+
+-- a walk that ends at an offset
+ends-there : (end : ℕ) (w : Walk) → endsAt end w ≡ true → w ≡ Walk.End end
+ends-there end (Walk.End e) q = ap (λ (k : ℕ). Walk.End k) (eqb-true e end q)
+ends-there end (Walk.Fault f) q = clash false q refl
+
+pub id-list : (s : List ℕ) → isIdList s ≡ true → IdList s
+unfolding isIdList
+id-list s e = go (eqb (byteAt s 0) letterL) refl e
+  where
+    go : (t : Bool) → eqb (byteAt s 0) letterL ≡ t → t && endsAt (length s) (itemsEnd Items.Ids s 1) ≡ true → IdList s
+    go true q e = ids-encoded s (eqb-true (byteAt s 0) letterL q) (ends-there (length s) (itemsEnd Items.Ids s 1) e)
+    go false q e = clash false e refl

@@ -1,0 +1,307 @@
+-- Each frame written reads back as its record, and each handshake as its range.
+-- Assumes nothing.
+use Prim.Native.Nat.{ℕ, zero, suc, _+_, _-_, _^_, _≤_, _<_}
+use mathlib.Core.Logic.{inl, inr}
+use mathlib.Core.Path.{_≡_, refl, sym, ap, _∙_}
+use mathlib.Core.Bool.{Bool, true, false, cond, _&&_}
+use mathlib.Core.List.{List, [], _∷_, _++_, append-nil, append-assoc}
+use native.Mathlib.Omega.{arith}
+use native.Mathlib.Decide.{decLt}
+use borrow.Author.Tests.{leb-true, le-leb}
+use lib.Dec.{eqb, eqb→eq, leb}
+use lib.IntN.{ℤ, pos}
+use lib.ListN.{length, getD, replicate, List·getD-eq-default}
+use Rattle.bencode.specs.declared.profile.Profile.{Profile}
+use Rattle.bencode.specs.Bytes.{same, letterE, part as bytesFrom}
+use Rattle.bencode.specs.Integer.{InRange}
+use Rattle.bencode.specs.Key.{isUsed, keyFault}
+use Rattle.bencode.specs.Value.{Value, integer, string, list, Values, no-value, value, encodeString, encode, WellFormed}
+use Rattle.bencode.proofs.BeginsLaws.{part-begins}
+use Rattle.bencode.proofs.Order.{clash}
+use Rattle.bencode.proofs.Table.{at}
+use Rattle.ipc.specs.declared.format.Checked.{Checked}
+use Rattle.ipc.specs.declared.ids.OptionalTag.{OptionalTag}
+use Rattle.ipc.specs.declared.keys.Class.{Class}
+use Rattle.ipc.specs.declared.reading.Value.{Value as MessageValue}
+use Rattle.ipc.specs.declared.write.Given.{Given}
+use Rattle.ipc.specs.declared.write.Written.{Written}
+use Rattle.ipc.specs.Answer.{Answer, part, accepted, acceptedHandshake, contentOf}
+use Rattle.ipc.specs.Ascii.{ascii}
+use Rattle.ipc.specs.Frame.{readFrame}
+use Rattle.ipc.specs.Greeting.{isRange, handshakeValue, handshakePayload, handshakeWritten}
+use Rattle.ipc.specs.Handshake.{largestVersion, rangeOf}
+use Rattle.ipc.specs.Header.{headerLength, largestPayload}
+use Rattle.ipc.specs.Hex.{hexHeader}
+use Rattle.ipc.specs.Ids.{largestTag, tagOf}
+use Rattle.ipc.specs.Keys.{keyText, Listed, listed, unlisted, numberFrom, keyNumber, classOf, isWritten}
+use Rattle.ipc.specs.Meaning.{wholeAt, judged, meaning}
+use Rattle.ipc.specs.Write.{nothingFits, integerFits, bytesFit, valueFits, encodeGiven, encodeTag, payloadOf, frameOf, fitted, writeAnswer}
+use Rattle.ipc.specs.Demands.{GivenFits, Named, ReadsBack, HandshakeReadsBack}
+use Rattle.ipc.proofs.Accepts.{answers-meaning}
+use Rattle.ipc.proofs.HexLaws.{header-length, header-digits, from-header}
+use Rattle.ipc.proofs.IdLists.{IdList, id-list}
+use Rattle.ipc.proofs.Inverts.{and-left, and-right, spelling, untagged-text, tagged-text}
+use Rattle.ipc.proofs.Means.{Good}
+use Rattle.ipc.proofs.WritesBack.{Stands, text-stands, stands-in, payload-again, frame-length}
+
+-- ---- what a count says
+-- a payload that is written, in a frame of n bytes
+record Counted (payload : List ℕ) (n : ℕ) : Type 0 where
+  small : length payload ≤ largestPayload
+  count : headerLength + length payload ≡ n
+
+fitted-counted : (p : List ℕ) (room n : ℕ) → fitted p room ≡ Written.Count n → Counted p n
+unfolding fitted
+fitted-counted p room n e = go (leb (length p) largestPayload) refl (leb (length (frameOf p)) room) e
+  where
+    go : (t : Bool) → leb (length p) largestPayload ≡ t → (u : Bool) → cond t (cond u (Written.Count (length (frameOf p))) (Written.Refused 44)) (Written.Refused 43) ≡ Written.Count n → Counted p n
+    go true q true e = let same : length (frameOf p) ≡ n = cc in record { small = leb-true (length p) largestPayload q; count = omega (arith, frame-length p) }
+    go true q false e = let z : _≡_ {A = ℕ} 0 1 = cc in absurd (omega arith)
+    go false q u e = let z : _≡_ {A = ℕ} 0 1 = cc in absurd (omega arith)
+
+-- a message that is written passes each test
+record Passed (key : ℕ) (given : Given) (s : List ℕ) (tag n : ℕ) : Type 0 where
+  written : isWritten key ≡ true
+  fits : valueFits (classOf key) given s ≡ true
+  tagged : tag ≤ largestTag
+  counted : Counted (payloadOf key given s tag) n
+
+passed : (key : ℕ) (given : Given) (s : List ℕ) (tag room n : ℕ) → writeAnswer key given s tag room ≡ Written.Count n → Passed key given s tag n
+unfolding writeAnswer
+passed key given s tag room n e = go (isWritten key) refl (valueFits (classOf key) given s) refl (leb tag largestTag) refl e
+  where
+    go : (t : Bool) → isWritten key ≡ t → (u : Bool) → valueFits (classOf key) given s ≡ u → (v : Bool) → leb tag largestTag ≡ v
+        → cond t (cond u (cond v (fitted (payloadOf key given s tag) room) (Written.Refused 42)) (Written.Refused 41)) (Written.Refused 40) ≡ Written.Count n → Passed key given s tag n
+    go true p true q true r e = record { written = p; fits = q; tagged = leb-true tag largestTag r; counted = fitted-counted (payloadOf key given s tag) room n e }
+    go true p true q false r e = let z : _≡_ {A = ℕ} 0 1 = cc in absurd (omega arith)
+    go true p false q v r e = let z : _≡_ {A = ℕ} 0 1 = cc in absurd (omega arith)
+    go false p u q v r e = let z : _≡_ {A = ℕ} 0 1 = cc in absurd (omega arith)
+
+-- ---- keys
+-- the number of each listed key's text is the key's: a computed test
+number-right : ℕ → ℕ → Bool
+number-right k x = eqb (keyNumber (keyText (suc k))) (suc k)
+
+number-again : (k : ℕ) → k < 20 → keyNumber (keyText (suc k)) ≡ suc k
+unfolding number-right keyNumber keyText numberFrom listed ascii same
+number-again k h = eqb→eq _ _ (at number-right (replicate 20 0) tt k h)
+
+-- a key that is written is a listed one
+key-again : (key : ℕ) → isWritten key ≡ true → keyNumber (keyText key) ≡ key
+unfolding isWritten
+key-again zero w = clash false w refl
+key-again (suc k) w = go (decLt k 20)
+  where
+    go : Dec (k < 20) → keyNumber (keyText (suc k)) ≡ suc k
+    go (yes h) = number-again k h
+    go (no h) =
+        let many : length listed ≡ 20 = unfold listed in refl in
+        let none : getD listed k unlisted ≡ unlisted = List·getD-eq-default listed unlisted (omega arith) in
+        clash (getD listed k unlisted .written) w (ap (λ (x : Listed). x .written) none)
+
+-- ---- values
+-- what a value that is handed in is, at an offset of the payload
+record Handed (class : Class) (given : Given) (s : List ℕ) (at : ℕ) : Type 0 where
+  value : Value
+  held : MessageValue
+  formed : WellFormed Profile.Loose 15 value
+  same : encodeGiven class given s ≡ encode value
+  judges : judged class at value ≡ Checked.Value held
+  names : (f : List ℕ) → Stands f at value → Named f given s (contentOf held)
+
+module _ (s : List ℕ) (at : ℕ) where
+  nothing-handed : (class : Class) → nothingFits class ≡ true → Handed class Given.Nothing s at
+  unfolding encodeGiven encode
+  nothing-handed Class.Unlisted e = clash false e refl
+  nothing-handed Class.Boolean e = clash false e refl
+  nothing-handed Class.Ignored e = record { value = string []; held = MessageValue.Nothing; formed = tt; same = refl; judges = refl; names = λ f b. refl }
+  nothing-handed Class.Text e = clash false e refl
+  nothing-handed Class.Integer e = clash false e refl
+  nothing-handed Class.TextList e = clash false e refl
+  nothing-handed Class.TorrentList e = clash false e refl
+  nothing-handed Class.Port e = clash false e refl
+  nothing-handed Class.IdList e = clash false e refl
+
+  integer-judged : (class : Class) (z : ℤ) → integerFits class z ≡ true → judged class at (integer z) ≡ Checked.Value (MessageValue.Integer z)
+  integer-judged Class.Unlisted z e = clash false e refl
+  integer-judged Class.Boolean z e = rw e refl
+  integer-judged Class.Ignored z e = clash false e refl
+  integer-judged Class.Text z e = clash false e refl
+  integer-judged Class.Integer z e = refl
+  integer-judged Class.TextList z e = clash false e refl
+  integer-judged Class.TorrentList z e = clash false e refl
+  integer-judged Class.Port z e = rw e refl
+  integer-judged Class.IdList z e = clash false e refl
+
+  integer-handed : (class : Class) (z : ℤ) → InRange z → integerFits class z ≡ true → Handed class (Given.Integer z) s at
+  unfolding encodeGiven
+  integer-handed class z fits e = record { value = integer z; held = MessageValue.Integer z; formed = fits; same = refl; judges = integer-judged class z e; names = λ f b. refl }
+
+  text-handed : Handed Class.Text Given.Bytes s at
+  unfolding encodeGiven encode
+  text-handed = record {
+    value = string s;
+    held = MessageValue.Text (headerLength + ((at + length (encodeString s)) - length s)) (length s);
+    formed = tt;
+    same = refl;
+    judges = refl;
+    names = λ f b. (headerLength + ((at + length (encodeString s)) - length s), inl refl, text-stands f at s b);
+  }
+
+  -- where a list of torrent IDs stands
+  ids-named : (f : List ℕ) (d : IdList s) → Stands f at (list (d .ids)) → Named f Given.Bytes s (contentOf (wholeAt at (list (d .ids))))
+  ids-named f d b =
+      let size : length (encode (list (d .ids))) ≡ length s = ap length (sym (d .is)) in
+      let stands : bytesFrom f (headerLength + at) (headerLength + at + length (encode (list (d .ids)))) ≡ encode (list (d .ids)) =
+      part-begins f (headerLength + at) (headerLength + at + length (encode (list (d .ids)))) (encode (list (d .ids))) b in
+      (headerLength + at, inr (ap (λ (k : ℕ). part (headerLength + at) k) size), ap (λ (k : ℕ). bytesFrom f (headerLength + at) (headerLength + at + k)) (sym size) ∙ stands ∙ sym (d .is))
+
+  ids-handed : IdList s → Handed Class.IdList Given.Bytes s at
+  unfolding encodeGiven
+  ids-handed d = record {
+    value = list (d .ids);
+    held = wholeAt at (list (d .ids));
+    formed = d .formed;
+    same = d .is;
+    judges = rw (d .each) refl;
+    names = λ f b. ids-named f d b;
+  }
+
+  bytes-handed : (class : Class) → bytesFit class s ≡ true → Handed class Given.Bytes s at
+  bytes-handed Class.Unlisted e = clash false e refl
+  bytes-handed Class.Boolean e = clash false e refl
+  bytes-handed Class.Ignored e = clash false e refl
+  bytes-handed Class.Text e = text-handed
+  bytes-handed Class.Integer e = clash false e refl
+  bytes-handed Class.TextList e = clash false e refl
+  bytes-handed Class.TorrentList e = clash false e refl
+  bytes-handed Class.Port e = clash false e refl
+  bytes-handed Class.IdList e = ids-handed (id-list s e)
+
+  handed : (class : Class) (given : Given) → GivenFits given → valueFits class given s ≡ true → Handed class given s at
+  unfolding valueFits
+  handed class Given.Nothing g e = nothing-handed class e
+  handed class (Given.Integer z) g e = integer-handed class z g e
+  handed class Given.Bytes g e = bytes-handed class e
+
+-- ---- messages
+-- a tag, as values of a list
+abbrev tags : ℕ → Values
+tags zero = no-value
+tags (suc t) = value (integer (pos (suc t))) no-value
+
+-- a message, as a value
+abbrev messageValue : List ℕ → Value → ℕ → Value
+messageValue key x tag = list (value (string key) (value x (tags tag)))
+
+-- how it is written, that it is well formed, and what it means
+message-text : (key : List ℕ) (x : Value) (tag : ℕ) → tag ≤ largestTag → encode (messageValue key x tag) ≡ spelling key x tag
+message-text key x zero h = untagged-text key x
+message-text key x (suc t) h = tagged-text key x (pos (suc t)) (suc t) (record { is = refl; low = omega arith; high = h })
+
+message-formed : (key : List ℕ) (x : Value) (tag : ℕ) → tag ≤ largestTag → WellFormed Profile.Loose 15 x → Good (messageValue key x tag)
+message-formed key x zero h g = (tt, (g, tt))
+message-formed key x (suc t) h g = let small : suc t < 2 ^ 63 = omega arith in (tt, (g, (small, tt)))
+
+-- a tag that is written is one
+tag-again : (n : ℕ) → 1 ≤ n → n ≤ largestTag → tagOf (pos n) ≡ OptionalTag.Tag (record { 0 = n })
+unfolding tagOf
+tag-again n l h = rw (le-leb 1 n l, le-leb n largestTag h) refl
+
+message-meant : (used : ℕ) (key : List ℕ) (x : Value) (tag : ℕ) (held : MessageValue) → tag ≤ largestTag → judged (classOf (keyNumber key)) (1 + length (encodeString key)) x ≡ Checked.Value held
+    → meaning used (messageValue key x tag) ≡ accepted used (keyNumber key) tag (contentOf held)
+message-meant used key x zero held h e = rw e refl
+message-meant used key x (suc t) held h e = rw (tag-again (suc t) (omega arith) h, e) refl
+
+-- ---- frames
+-- the frame of a well-formed value reads as what it means
+frame-reads : (v : Value) (a : Answer) (rest : List ℕ) → Good v → length (encode v) ≤ largestPayload → meaning (headerLength + length (encode v)) v ≡ a → readFrame (frameOf (encode v) ++ rest) ≡ a
+unfolding frameOf
+frame-reads v a rest g small e =
+    answers-meaning (frameOf (encode v) ++ rest) a (record {
+      header = hexHeader (length (encode v));
+      payload = v;
+      rest = rest;
+      is = append-assoc (hexHeader (length (encode v))) (encode v) rest;
+      eight = header-length (length (encode v));
+      hex = header-digits (length (encode v));
+      number = from-header (length (encode v)) (omega arith);
+      small = small;
+      formed = g;
+      means = e;
+    })
+
+-- where a message's value stands in the frame of a payload
+frame-stands : (p : List ℕ) (key : List ℕ) (x : Value) (tag : ℕ) → p ≡ spelling key x tag → Stands (frameOf p) (1 + length (encodeString key)) x
+unfolding frameOf
+frame-stands p key x tag e =
+    stands-in (frameOf p) (hexHeader (length p)) p (encodeString key) (encode x) (encodeTag tag ++ (letterE ∷ [])) [] (header-length (length p)) (ap (λ (l : List ℕ). hexHeader (length p) ++ l) (sym (append-nil p))) e
+
+-- ---- the statements
+module _ (key tag n : ℕ) (given : Given) (s rest : List ℕ) (w : Passed key given s tag n) (d : Handed (classOf key) given s (1 + length (encodeString (keyText key)))) where
+  spelt : payloadOf key given s tag ≡ spelling (keyText key) (d .value) tag
+  spelt = payload-again key given s tag (keyText key) (d .value) refl (d .same)
+
+  payload-value : payloadOf key given s tag ≡ encode (messageValue (keyText key) (d .value) tag)
+  payload-value = spelt ∙ sym (message-text (keyText key) (d .value) tag (w .tagged))
+
+  -- the answer that the frame's value means
+  meant : meaning n (messageValue (keyText key) (d .value) tag) ≡ accepted n key tag (contentOf (d .held))
+  meant =
+      let k : keyNumber (keyText key) ≡ key = key-again key (w .written) in
+      let j : judged (classOf (keyNumber (keyText key))) (1 + length (encodeString (keyText key))) (d .value) ≡ Checked.Value (d .held) =
+      ap (λ (i : ℕ). judged (classOf i) (1 + length (encodeString (keyText key))) (d .value)) k ∙ d .judges in
+      message-meant n (keyText key) (d .value) tag (d .held) (w .tagged) j ∙ ap (λ (i : ℕ). accepted n i tag (contentOf (d .held))) k
+
+  message-reads : readFrame (frameOf (payloadOf key given s tag) ++ rest) ≡ accepted n key tag (contentOf (d .held))
+  message-reads =
+      let v = messageValue (keyText key) (d .value) tag in
+      let size : length (payloadOf key given s tag) ≡ length (encode v) = ap length payload-value in
+      let used : headerLength + length (encode v) ≡ n = omega (arith, w .counted .count) in
+      ap (λ (p : List ℕ). readFrame (frameOf p ++ rest)) payload-value
+      ∙ frame-reads v (accepted n key tag (contentOf (d .held))) rest (message-formed (keyText key) (d .value) tag (w .tagged) (d .formed)) (omega (arith, w .counted .small)) (ap (λ (m : ℕ). meaning m v) used ∙ meant)
+
+pub reads-back : ReadsBack
+reads-back key tag room n given s rest fits e =
+    let w = passed key given s tag room n e in
+    let d = handed s (1 + length (encodeString (keyText key))) (classOf key) given fits (w .fits) in (
+      contentOf (d .held),
+      message-reads key tag n given s rest w d,
+      d .names (frameOf (payloadOf key given s tag)) (frame-stands (payloadOf key given s tag) (keyText key) (d .value) tag (spelt key tag n given s rest w d)),
+    )
+
+-- ---- handshakes
+-- a handshake that is written has a range
+record Ranged (low high n : ℕ) : Type 0 where
+  range : isRange low high ≡ true
+  counted : Counted (encode (handshakeValue low high)) n
+
+ranged : (low high room n : ℕ) → handshakeWritten low high room ≡ Written.Count n → Ranged low high n
+unfolding handshakeWritten handshakePayload
+ranged low high room n e = go (isRange low high) refl e
+  where
+    go : (t : Bool) → isRange low high ≡ t → cond t (fitted (encode (handshakeValue low high)) room) (Written.Refused 41) ≡ Written.Count n → Ranged low high n
+    go true q e = record { range = q; counted = fitted-counted (encode (handshakeValue low high)) room n e }
+    go false q e = let z : _≡_ {A = ℕ} 0 1 = cc in absurd (omega arith)
+
+handshake-formed : (low high : ℕ) → isRange low high ≡ true → Good (handshakeValue low high)
+unfolding keyFault isUsed same ascii
+handshake-formed low high e =
+    let up : leb low high && leb high largestVersion ≡ true = and-right (leb 1 low) (leb low high && leb high largestVersion) e in
+    let rises : low ≤ high = leb-true low high (and-left (leb low high) (leb high largestVersion) up) in
+    let ends : high ≤ largestVersion = leb-true high largestVersion (and-right (leb low high) (leb high largestVersion) up) in
+    let low-fits : low < 2 ^ 63 = omega arith in
+    let high-fits : high < 2 ^ 63 = omega arith in
+    (refl, (refl, low-fits, (refl, high-fits, tt)), tt)
+
+handshake-meant : (used low high : ℕ) → isRange low high ≡ true → meaning used (handshakeValue low high) ≡ acceptedHandshake used low high
+unfolding same ascii rangeOf
+handshake-meant used low high e = rw e refl
+
+pub handshake-reads-back : HandshakeReadsBack
+unfolding handshakePayload
+handshake-reads-back low high room n rest e =
+    let w = ranged low high room n e in
+    let v = handshakeValue low high in
+    frame-reads v (acceptedHandshake n low high) rest (handshake-formed low high (w .range)) (w .counted .small)
+    (ap (λ (m : ℕ). meaning m v) (w .counted .count) ∙ handshake-meant n low high (w .range))
