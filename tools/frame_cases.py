@@ -5,9 +5,8 @@ many bytes of body; its line is what frame_oracle.line gives. The last case
 is cut short. Operations: r read, w write, s write a handshake, a agreed
 version.
 
-Run from the repository's top: python3 tools/frame_cases.py [all]
-Without `all` only r cases are written. The files are the same on every run:
-all choices come from a fixed seed.
+Run from the repository's top: python3 tools/frame_cases.py
+The files are the same on every run: all choices come from a fixed seed.
 """
 
 import itertools
@@ -614,9 +613,7 @@ def write_cases():
 
 
 def main():
-    if sys.argv[1:] not in ([], ["all"]):
-        sys.exit("usage: frame_cases.py [all]")
-    made = itertools.chain(read_cases(), write_cases() if sys.argv[1:] else ())
+    made = itertools.chain(read_cases(), write_cases())
     cases, lines, counts = bytearray(), bytearray(), {}
     for operation, body in dict.fromkeys(made):
         assert len(body) <= MAX_BODY

@@ -1,4 +1,5 @@
-// Bencoded payloads: where a value ends or which byte is at fault, and how to look into a payload that is sound.
+// Bencoded payloads: where a value ends or which byte is at fault, how to look into a payload that is sound, and how to
+// write integers and strings.
 // Nothing here knows of frames, and no length is too long.
 pub mod bytes;
 mod decimal;

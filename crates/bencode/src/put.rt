@@ -1,6 +1,5 @@
 // Integers, strings and bytes put into a lent buffer. Where they have no room, nothing is stored and the offset stays.
 ghost use mathlib.Core.Path.{_≡_};
-ghost use mathlib.Core.List.{[], _∷_};
 ghost use Prim.Native.Nat.{_+_, _≤_};
 ghost use lib.Dec.{ltb};
 ghost use lib.ListN.{length};

@@ -1,128 +1,50 @@
-// Answers a stream of cases, a line for each. Operation `r`: the body is what the reader is handed; the line is
-// `code offset consumed kind key tag value`.
+// Answers a stream of cases, a line for each: `r` reads a frame, `w` writes a message, `s` writes a handshake and `a` gives
+// the version that two ranges agree on.
+mod number;
+mod reading;
+mod written;
+
 use cases::Case;
-use cases::print;
-use cases::print_number;
-use ipc::ids::OptionalTag;
-use ipc::reading::Reading;
-use ipc::reading::Value;
+use reading::print_reading;
+use written::print_agreed;
+use written::print_handshake;
+use written::print_message;
 
-fn print_integer(v: i64) {
-    if v < 0 {
-        print(b"-");
+// Answers a case, or says that its operation is none or its body does not fit.
+fn answer_case(operation: u8, body: &[u8], out: &mut [u8]) -> bool {
+    match operation {
+        b'r' => {
+            print_reading(ipc::read::read(body));
+            true
+        }
+        b'w' => print_message(body, out),
+        b's' => print_handshake(body, out),
+        b'a' => print_agreed(body),
+        _ => false,
     }
-    print_number(bencode::integer::magnitude(v));
-}
-
-// Two numbers with a comma between them.
-fn print_pair(a: u64, b: u64) {
-    print_number(a);
-    print(b",");
-    print_number(b);
-}
-
-fn print_tag(tag: OptionalTag) {
-    match tag {
-        OptionalTag::Tag(t) => print_number(t.number() as u64),
-        OptionalTag::None => print_number(0),
-    }
-}
-
-fn print_value(value: Value) {
-    match value {
-        Value::Nothing => print(b"-"),
-        Value::Integer(z) => {
-            print(b"i");
-            print_integer(z);
-        }
-        Value::Text { offset, length } => {
-            print(b"t");
-            print_pair(offset as u64, length as u64);
-        }
-        Value::Part { offset, length } => {
-            print(b"p");
-            print_pair(offset as u64, length as u64);
-        }
-    }
-}
-
-// A refusal's code and offset, and nothing read.
-fn print_refused(code: u64, offset: u64) {
-    print_number(code);
-    print(b" ");
-    print_number(offset);
-    print(b" 0 - 0 0 -");
-}
-
-// A message's key and tag.
-fn print_keyed(key: u8, tag: OptionalTag) {
-    print(b" m ");
-    print_number(key as u64);
-    print(b" ");
-    print_tag(tag);
-    print(b" ");
-}
-
-fn print_reading(reading: Reading) {
-    match reading {
-        Reading::Message { message, consumed } => {
-            let key = message.key;
-            let tag = message.tag;
-            let value = message.value;
-            print(b"0 0 ");
-            print_number(consumed as u64);
-            print_keyed(key, tag);
-            print_value(value);
-        }
-        Reading::Handshake { versions, consumed } => {
-            print(b"0 0 ");
-            print_number(consumed as u64);
-            print(b" h 0 0 h");
-            print_pair(versions.min() as u64, versions.max() as u64);
-        }
-        Reading::Incomplete => print_refused(1, 0),
-        Reading::NoDigit(at) => print_refused(2, at as u64),
-        Reading::OverProtocol => print_refused(3, 0),
-        Reading::OverLimit => print_refused(4, 0),
-        Reading::Payload(f) => print_refused(f.code as u64, f.offset as u64),
-        Reading::NoMessage => print_refused(20, 0),
-        Reading::NoHandshake => print_refused(21, 0),
-        Reading::OffFormat { key, tag } => {
-            print(b"22 0 0");
-            print_keyed(key, tag);
-            print(b"-");
-        }
-    }
-    print(b"\n");
-}
-
-// Answers a case, or says that its operation is none.
-fn answer_case(operation: u8, body: &[u8]) -> bool {
-    if operation == b'r' {
-        print_reading(ipc::read::read(body));
-        return true;
-    }
-    false
 }
 
 // Reads and answers a case, and says whether to go on.
-fn run_case(head: &mut [u8; 5], body: &mut [u8]) -> bool {
+fn run_case(head: &mut [u8; 5], body: &mut [u8], out: &mut [u8]) -> bool {
     match cases::next_case(head, body) {
         Case::Body { operation, length } => {
-            cases::answered(answer_case(operation, &body[..length]))
+            cases::answered(answer_case(operation, &body[..length], out))
         }
         Case::End => false,
     }
 }
 
+// The number of cases is bounded so that the program is seen to end; no stream has so many.
 fn main() {
     let mut head = [0u8; 5];
     let mut space = [0u8; 131072];
     let body: &mut [u8] = &mut space;
+    let mut room = [0u8; 131072];
+    let out: &mut [u8] = &mut room;
     let mut left: u32 = 4000000000;
     while 0 < left {
         left -= 1;
-        if !run_case(&mut head, body) {
+        if !run_case(&mut head, body, out) {
             return;
         }
     }

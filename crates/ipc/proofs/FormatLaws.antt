@@ -31,7 +31,7 @@ use Rattle.ipc.specs.declared.format.Checked.{Checked}
 use Rattle.ipc.specs.declared.format.Items.{Items}
 use Rattle.ipc.specs.declared.reading.Value.{Value}
 use Rattle.ipc.specs.Ascii.{ascii}
-use Rattle.ipc.specs.Ids.{torrentIdOf}
+use Rattle.ipc.specs.Ids.{within, torrentIdOf}
 use Rattle.bencode.specs.Entry.{entryAt}
 use Rattle.ipc.specs.Format.{anyInteger, upTo, textValue, partValue, offItem, idThen, idNumber, idEnd, afterId, torrentWith, torrentEnd, itemEnd, itemsEnd, listPart}
 use Rattle.ipc.proofs.Ranges.{machine, natural-machine, same, too-low, too-high, in-range}
@@ -43,6 +43,21 @@ integer-fits p at z end e = go (integer-inv p at z end e)
     go : SignedInteger p at z end → SFits w64 z
     go (plus b w) = record { sfits = w .fits }
     go (minus b c d w) = record { sfits = w .fits }
+
+-- an integer from 0 to another, by the tests of the source
+module _ (z : ℤ) (f : SFits w64 z) (high : ℕ) where
+  pub is-low : ltZ (machine z) (pos 0) ≡ true → false ≡ within 0 high z
+  is-low h = sym (too-low z f 0 high h)
+
+  module _ (small : high < 2 ^ 63) where
+    from-machine : (t : Bool) → ltZ (toZ w64 high) (machine z) ≡ t → ltZ (pos high) (machine z) ≡ t
+    from-machine t h = ap (λ (x : ℤ). ltZ x (machine z)) (sym (natural-machine high small)) ∙ h
+
+    pub is-high : ltZ (toZ w64 high) (machine z) ≡ true → false ≡ within 0 high z
+    is-high h = sym (too-high z f 0 high (from-machine true h))
+
+    pub is-in : ltZ (machine z) (pos 0) ≡ false → ltZ (toZ w64 high) (machine z) ≡ false → true ≡ within 0 high z
+    is-in l h = sym (in-range z f 0 high l (from-machine false h))
 
 module _ (p : List ℕ) (at : ℕ) where
   module _ (f : Fault) (e : integerAt p at ≡ Number.Fault f) where
@@ -60,20 +75,14 @@ module _ (p : List ℕ) (at : ℕ) where
     pub any-good : Checked.Value (Value.Integer (machine z)) ≡ anyInteger (integerAt p at)
     any-good = rw (same z (integer-fits p at z end e), e) refl
 
-    module _ (high : ℕ) (small : high < 2 ^ 63) where
-      from-machine : (t : Bool) → ltZ (toZ w64 high) (machine z) ≡ t → ltZ (pos high) (machine z) ≡ t
-      from-machine t h = ap (λ (x : ℤ). ltZ x (machine z)) (sym (natural-machine high small)) ∙ h
+    pub up-in : (high : ℕ) → within 0 high (machine z) ≡ true → Checked.Value (Value.Integer (machine z)) ≡ upTo high (integerAt p at)
+    up-in high h =
+        let i = same z (integer-fits p at z end e) in
+        let g : within 0 high z ≡ true = ap (λ (x : ℤ). within 0 high x) (sym i) ∙ h in
+        rw (i, e, g) refl
 
-      pub up-low : ltZ (machine z) (pos 0) ≡ true → Checked.Off ≡ upTo high (integerAt p at)
-      up-low h = rw (e, too-low z (integer-fits p at z end e) 0 high h) refl
-
-      pub up-high : ltZ (toZ w64 high) (machine z) ≡ true → Checked.Off ≡ upTo high (integerAt p at)
-      up-high h = rw (e, too-high z (integer-fits p at z end e) 0 high (from-machine true h)) refl
-
-      pub up-good : ltZ (machine z) (pos 0) ≡ false → ltZ (toZ w64 high) (machine z) ≡ false → Checked.Value (Value.Integer (machine z)) ≡ upTo high (integerAt p at)
-      up-good l h =
-          let f = integer-fits p at z end e in
-          rw (same z f, e, in-range z f 0 high l (from-machine false h)) refl
+    pub up-out : (high : ℕ) → within 0 high (machine z) ≡ false → Checked.Off ≡ upTo high (integerAt p at)
+    up-out high h = rw (e, ← same z (integer-fits p at z end e), h) refl
 
     pub id-good : (id : TorrentId) → torrentIdOf (machine z) ≡ OptionalId.Id id → Walk.End end ≡ idEnd p at
     unfolding idEnd

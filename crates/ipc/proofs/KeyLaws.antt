@@ -1,7 +1,7 @@
 -- Laws of the listed keys. The table of the source is the list of the document: one computation, at `row_at`.
 -- Assumes nothing.
-use Prim.Native.Nat.{ℕ, zero, suc, _-_, _≤_, _<_}
-use mathlib.Core.Path.{_≡_, refl, ap, _∙_}
+use Prim.Native.Nat.{ℕ, zero, suc, _-_, _≤_, _<_, max}
+use mathlib.Core.Path.{_≡_, refl, ap, subst, _∙_}
 use mathlib.Core.Bool.{true, false, cond}
 use mathlib.Core.List.{List, [], _∷_, map}
 use native.Mathlib.Nat.{le-of-suc-le-suc, not-suc-le-zero}
@@ -9,9 +9,11 @@ use native.Mathlib.Omega.{arith}
 use lib.ListN.{length, getD, drop, take, replicate, List·getD-map, List·getD-eq-default, length-append, drop-of-length-le}
 use lib.Seq.{drop-cons, take-at}
 use Rattle.bencode.specs.Bytes.{same}
+use Rattle.bencode.specs.Put.{Put}
+use Rattle.bencode.specs.Value.{encodeString}
 use Rattle.ipc.specs.declared.keys.KeyRow.{KeyRow}
 use Rattle.ipc.specs.Ascii.{ascii}
-use Rattle.ipc.specs.Keys.{listed, unlisted, rowOf, rowAt, nameAt, numberFrom, keyNumber, listedAt}
+use Rattle.ipc.specs.Keys.{Listed, listed, unlisted, rowOf, rowAt, nameAt, numberFrom, keyNumber, listedAt, keyText}
 
 -- what stands past the end does not matter inside
 inside-any : {A : Type 0} (l : List A) (k : ℕ) (d e : A) → k < length l → getD l k d ≡ getD l k e
@@ -63,3 +65,45 @@ listed-at (suc k) h = ap (λ (i : ℕ). getD listed i unlisted) (let e : k ≡ s
 pub listed-past : (n : ℕ) → (n ≡ 0 → ⊥) → 20 ≤ n - 1 → listedAt n ≡ unlisted
 unfolding listed
 listed-past n h l = listed-at n h ∙ List·getD-eq-default listed unlisted {n = n - 1} l
+
+-- ---- the text of a key
+-- how long the longest text is: one computation over the list
+longest : List Listed → ℕ
+longest [] = 0
+longest (x ∷ xs) = max (length (ascii (x .name))) (longest xs)
+
+below-longest : (l : List Listed) (k : ℕ) → length (ascii (getD l k unlisted .name)) ≤ longest l
+unfolding longest ascii
+below-longest [] k = omega arith
+below-longest (x ∷ l) zero = omega arith
+below-longest (x ∷ l) (suc k) = omega (arith, below-longest l k)
+
+longest-listed : longest listed ≡ 14
+unfolding longest listed ascii
+longest-listed = refl
+
+module _ (n : ℕ) where
+  pub text-none : n ≡ 0 → keyText n ≡ []
+  unfolding keyText ascii
+  text-none e = rw e refl
+
+  module _ (h : n ≡ 0 → ⊥) where
+    pub text-past : 20 ≤ n - 1 → keyText n ≡ []
+    unfolding keyText ascii
+    text-past l = ap (λ (x : Listed). ascii (x .name)) (listed-past n h l)
+
+    pub text-at : keyText n ≡ nameAt (n - 1)
+    unfolding keyText nameAt
+    text-at = ap (λ (x : Listed). ascii (x .name)) (listed-at n h)
+
+pub row-length : (k : ℕ) (row : KeyRow) → row ≡ rowAt k → row .length ≡ length (nameAt k)
+unfolding rowAt nameAt
+row-length k row e = ap (λ (r : KeyRow). r .length) e
+
+pub name-short : (k : ℕ) → length (nameAt k) ≤ 14
+unfolding nameAt
+name-short k = omega (arith, below-longest listed k, longest-listed)
+
+-- a string that is put is put for an equal text
+pub put-text : {before after t u : List ℕ} {at end : ℕ} → t ≡ u → Put before at (encodeString t) after end → Put before at (encodeString u) after end
+put-text {before} {after} {t} {u} {at} {end} e p = subst (λ (x : List ℕ). Put before at (encodeString x) after end) e p

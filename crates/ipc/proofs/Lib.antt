@@ -11,6 +11,10 @@ pub mod Handshakes
 pub mod Accepts
 pub mod Tried
 pub mod HexLaws
+pub mod OutcomeLaws
+pub mod GreetingLaws
+pub mod CheckLaws
+pub mod LengthLaws
 pub mod Inverts
 pub mod WritesBack
 pub mod IdLists

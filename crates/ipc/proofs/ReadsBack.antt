@@ -1,7 +1,6 @@
 -- Each frame written reads back as its record, and each handshake as its range.
 -- Assumes nothing.
 use Prim.Native.Nat.{ℕ, zero, suc, _+_, _-_, _^_, _≤_, _<_}
-use mathlib.Core.Logic.{inl, inr}
 use mathlib.Core.Path.{_≡_, refl, sym, ap, _∙_}
 use mathlib.Core.Bool.{Bool, true, false, cond, _&&_}
 use mathlib.Core.List.{List, [], _∷_, _++_, append-nil, append-assoc}
@@ -10,7 +9,7 @@ use native.Mathlib.Decide.{decLt}
 use borrow.Author.Tests.{leb-true, le-leb}
 use lib.Dec.{eqb, eqb→eq, leb}
 use lib.IntN.{ℤ, pos}
-use lib.ListN.{length, getD, replicate, List·getD-eq-default}
+use lib.ListN.{length, getD, replicate, List·getD-eq-default, drop}
 use Rattle.bencode.specs.declared.profile.Profile.{Profile}
 use Rattle.bencode.specs.Bytes.{same, letterE, part as bytesFrom}
 use Rattle.bencode.specs.Integer.{InRange}
@@ -35,14 +34,15 @@ use Rattle.ipc.specs.Hex.{hexHeader}
 use Rattle.ipc.specs.Ids.{largestTag, tagOf}
 use Rattle.ipc.specs.Keys.{keyText, Listed, listed, unlisted, numberFrom, keyNumber, classOf, isWritten}
 use Rattle.ipc.specs.Meaning.{wholeAt, judged, meaning}
-use Rattle.ipc.specs.Write.{nothingFits, integerFits, bytesFit, valueFits, encodeGiven, encodeTag, payloadOf, frameOf, fitted, writeAnswer}
-use Rattle.ipc.specs.Demands.{GivenFits, Named, ReadsBack, HandshakeReadsBack}
+use Rattle.ipc.specs.Write.{nothingFits, integerFits, bytesFit, valueFits, encodeGiven, encodeTag, payloadOf, frameOf, fitted, writeAnswer, messageFault}
+use Rattle.ipc.specs.Demands.{GivenFits, Named, ReadsBack, BufferReadsBack, HandshakeReadsBack}
 use Rattle.ipc.proofs.Accepts.{answers-meaning}
 use Rattle.ipc.proofs.HexLaws.{header-length, header-digits, from-header}
 use Rattle.ipc.proofs.IdLists.{IdList, id-list}
 use Rattle.ipc.proofs.Inverts.{and-left, and-right, spelling, untagged-text, tagged-text}
 use Rattle.ipc.proofs.Means.{Good}
-use Rattle.ipc.proofs.WritesBack.{Stands, text-stands, stands-in, payload-again, frame-length}
+use Rattle.ipc.proofs.WritesBack.{Stands, text-stands, stands-in, payload-again}
+use Rattle.ipc.proofs.OutcomeLaws.{frame-length}
 
 -- ---- what a count says
 -- a payload that is written, in a frame of n bytes
@@ -67,11 +67,11 @@ record Passed (key : ℕ) (given : Given) (s : List ℕ) (tag n : ℕ) : Type 0 
   counted : Counted (payloadOf key given s tag) n
 
 passed : (key : ℕ) (given : Given) (s : List ℕ) (tag room n : ℕ) → writeAnswer key given s tag room ≡ Written.Count n → Passed key given s tag n
-unfolding writeAnswer
+unfolding writeAnswer messageFault
 passed key given s tag room n e = go (isWritten key) refl (valueFits (classOf key) given s) refl (leb tag largestTag) refl e
   where
     go : (t : Bool) → isWritten key ≡ t → (u : Bool) → valueFits (classOf key) given s ≡ u → (v : Bool) → leb tag largestTag ≡ v
-        → cond t (cond u (cond v (fitted (payloadOf key given s tag) room) (Written.Refused 42)) (Written.Refused 41)) (Written.Refused 40) ≡ Written.Count n → Passed key given s tag n
+        → cond (eqb (cond t (cond u (cond v 0 42) 41) 40) 0) (fitted (payloadOf key given s tag) room) (Written.Refused (cond t (cond u (cond v 0 42) 41) 40)) ≡ Written.Count n → Passed key given s tag n
     go true p true q true r e = record { written = p; fits = q; tagged = leb-true tag largestTag r; counted = fitted-counted (payloadOf key given s tag) room n e }
     go true p true q false r e = let z : _≡_ {A = ℕ} 0 1 = cc in absurd (omega arith)
     go true p false q v r e = let z : _≡_ {A = ℕ} 0 1 = cc in absurd (omega arith)
@@ -107,7 +107,7 @@ record Handed (class : Class) (given : Given) (s : List ℕ) (at : ℕ) : Type 0
   formed : WellFormed Profile.Loose 15 value
   same : encodeGiven class given s ≡ encode value
   judges : judged class at value ≡ Checked.Value held
-  names : (f : List ℕ) → Stands f at value → Named f given s (contentOf held)
+  names : (f : List ℕ) → Stands f at value → Named class f given s (contentOf held)
 
 module _ (s : List ℕ) (at : ℕ) where
   nothing-handed : (class : Class) → nothingFits class ≡ true → Handed class Given.Nothing s at
@@ -145,16 +145,16 @@ module _ (s : List ℕ) (at : ℕ) where
     formed = tt;
     same = refl;
     judges = refl;
-    names = λ f b. (headerLength + ((at + length (encodeString s)) - length s), inl refl, text-stands f at s b);
+    names = λ f b. (headerLength + ((at + length (encodeString s)) - length s), refl, text-stands f at s b);
   }
 
   -- where a list of torrent IDs stands
-  ids-named : (f : List ℕ) (d : IdList s) → Stands f at (list (d .ids)) → Named f Given.Bytes s (contentOf (wholeAt at (list (d .ids))))
+  ids-named : (f : List ℕ) (d : IdList s) → Stands f at (list (d .ids)) → Named Class.IdList f Given.Bytes s (contentOf (wholeAt at (list (d .ids))))
   ids-named f d b =
       let size : length (encode (list (d .ids))) ≡ length s = ap length (sym (d .is)) in
       let stands : bytesFrom f (headerLength + at) (headerLength + at + length (encode (list (d .ids)))) ≡ encode (list (d .ids)) =
       part-begins f (headerLength + at) (headerLength + at + length (encode (list (d .ids)))) (encode (list (d .ids))) b in
-      (headerLength + at, inr (ap (λ (k : ℕ). part (headerLength + at) k) size), ap (λ (k : ℕ). bytesFrom f (headerLength + at) (headerLength + at + k)) (sym size) ∙ stands ∙ sym (d .is))
+      (headerLength + at, ap (λ (k : ℕ). part (headerLength + at) k) size, ap (λ (k : ℕ). bytesFrom f (headerLength + at) (headerLength + at + k)) (sym size) ∙ stands ∙ sym (d .is))
 
   ids-handed : IdList s → Handed Class.IdList Given.Bytes s at
   unfolding encodeGiven
@@ -269,6 +269,11 @@ reads-back key tag room n given s rest fits e =
       message-reads key tag n given s rest w d,
       d .names (frameOf (payloadOf key given s tag)) (frame-stands (payloadOf key given s tag) (keyText key) (d .value) tag (spelt key tag n given s rest w d)),
     )
+
+pub buffer-reads-back : BufferReadsBack
+buffer-reads-back key tag n given s before after fits o =
+    let r = reads-back key tag (length before) n given s (drop (length (frameOf (payloadOf key given s tag))) before) fits (sym (o .answered)) in
+    (r .0, ap readFrame (o .buffer) ∙ r .1, r .2)
 
 -- ---- handshakes
 -- a handshake that is written has a range

@@ -30,10 +30,11 @@ use Rattle.ipc.specs.Hex.{hexHeader, upper, upperHeader}
 use Rattle.ipc.specs.Ids.{within, largestTag}
 use Rattle.ipc.specs.Keys.{keyText, Listed, listed, unlisted, keyNumber, classOf, isWritten}
 use Rattle.ipc.specs.Meaning.{isId, every, wholeAt, asInteger, asText, asList, judged}
-use Rattle.ipc.specs.Write.{isIdList, integerFits, valueFits, encodeGiven, encodeTag, payloadOf, frameOf, fitted, writeAnswer}
+use Rattle.ipc.specs.Write.{isIdList, integerFits, valueFits, encodeGiven, encodeTag, payloadOf, frameOf, writeAnswer, messageFault}
 use Rattle.ipc.specs.Demands.{HexDigits, hexFrom, Framed, givenOf, bytesOf, WritesBack}
 use Rattle.ipc.proofs.Accepts.{accepts-exactly}
-use Rattle.ipc.proofs.HexLaws.{header-from, header-length}
+use Rattle.ipc.proofs.HexLaws.{header-from}
+use Rattle.ipc.proofs.OutcomeLaws.{fitted-count}
 use Rattle.ipc.proofs.Inverts.{key-named, written-listed, spelling, Meant, inverts}
 use Rattle.ipc.proofs.Means.{Good, Judge, good-list, items-begin, items-mean}
 
@@ -181,17 +182,9 @@ pub payload-again : (k : ℕ) (given : Given) (s : List ℕ) (tag : ℕ) (key : 
 unfolding payloadOf flatten
 payload-again k given s tag key x p q = rw (p, q) refl
 
-pub frame-length : (p : List ℕ) → length (frameOf p) ≡ headerLength + length p
-unfolding frameOf
-frame-length p = length-append (hexHeader (length p)) p ∙ omega (arith, header-length (length p))
-
-fitted-count : (p : List ℕ) (room : ℕ) → length p ≤ largestPayload → headerLength + length p ≤ room → fitted p room ≡ Written.Count (headerLength + length p)
-unfolding fitted
-fitted-count p room small fits = rw (le-leb (length p) largestPayload small, frame-length p, le-leb (headerLength + length p) room fits) refl
-
 written-count : (k : ℕ) (given : Given) (s : List ℕ) (tag room : ℕ) (p : List ℕ) → isWritten k ≡ true → valueFits (classOf k) given s ≡ true → tag ≤ largestTag → payloadOf k given s tag ≡ p
     → length p ≤ largestPayload → headerLength + length p ≤ room → writeAnswer k given s tag room ≡ Written.Count (headerLength + length p)
-unfolding writeAnswer
+unfolding writeAnswer messageFault
 written-count k given s tag room p w v t e small fits = rw (w, v, le-leb tag largestTag t, e) (fitted-count p room small fits)
 
 -- the frame of a payload is the one that was read, with the header's letters in upper case

@@ -20,7 +20,7 @@ use Rattle.ipc.specs.Frame.{readFrame}
 use Rattle.ipc.specs.Hex.{upperHeader}
 use Rattle.ipc.specs.Keys.{classOf, isWritten}
 use Rattle.ipc.specs.Meaning.{meaning}
-use Rattle.ipc.specs.Write.{payloadOf, frameOf, writeAnswer}
+use Rattle.ipc.specs.Write.{payloadOf, frameOf, writeAnswer, Outcome}
 use Rattle.ipc.specs.Greeting.{handshakePayload, handshakeWritten}
 
 -- bytes that are hex digits of either case
@@ -61,16 +61,34 @@ GivenFits Given.Nothing = Unit {0}
 GivenFits (Given.Integer z) = InRange z
 GivenFits Given.Bytes = Unit {0}
 
+-- how a reader names the bytes of a class: a text, or a list as it stands
+abbrev pub bytesNamed : Class → ℕ → ℕ → Content
+bytesNamed Class.Unlisted at n = part at n
+bytesNamed Class.Boolean at n = part at n
+bytesNamed Class.Ignored at n = part at n
+bytesNamed Class.Text at n = text at n
+bytesNamed Class.Integer at n = part at n
+bytesNamed Class.TextList at n = part at n
+bytesNamed Class.TorrentList at n = part at n
+bytesNamed Class.Port at n = part at n
+bytesNamed Class.IdList at n = part at n
+
 -- the content that a frame's reader names is the value that was handed in
-abbrev pub Named : List ℕ → Given → List ℕ → Content → Type 0
-Named frame Given.Nothing s c = c ≡ nothing
-Named frame (Given.Integer z) s c = c ≡ integer z
-Named frame Given.Bytes s c = (at : ℕ) × ((c ≡ text at (length s)) ⊎ (c ≡ part at (length s))) × (bytesFrom frame at (at + length s) ≡ s)
+abbrev pub Named : Class → List ℕ → Given → List ℕ → Content → Type 0
+Named class frame Given.Nothing s c = c ≡ nothing
+Named class frame (Given.Integer z) s c = c ≡ integer z
+Named class frame Given.Bytes s c = (at : ℕ) × (c ≡ bytesNamed class at (length s)) × (bytesFrom frame at (at + length s) ≡ s)
 
 -- each frame written reads back as its record, whatever follows it
 abbrev pub ReadsBack : Type 0
 ReadsBack = (key tag room n : ℕ) (given : Given) (s rest : List ℕ) → GivenFits given → writeAnswer key given s tag room ≡ Written.Count n
-    → (c : Content) × (readFrame (frameOf (payloadOf key given s tag) ++ rest) ≡ accepted n key tag c) × Named (frameOf (payloadOf key given s tag)) given s c
+    → (c : Content) × (readFrame (frameOf (payloadOf key given s tag) ++ rest) ≡ accepted n key tag c) × Named (classOf key) (frameOf (payloadOf key given s tag)) given s c
+
+-- the same of the buffer that was lent
+abbrev pub BufferReadsBack : Type 0
+BufferReadsBack = (key tag n : ℕ) (given : Given) (s before after : List ℕ) → GivenFits given
+    → Outcome (writeAnswer key given s tag (length before)) (payloadOf key given s tag) before (Written.Count n) after
+    → (c : Content) × (readFrame after ≡ accepted n key tag c) × Named (classOf key) (frameOf (payloadOf key given s tag)) given s c
 
 -- each handshake written reads back as its range
 abbrev pub HandshakeReadsBack : Type 0

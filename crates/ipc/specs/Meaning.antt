@@ -96,11 +96,12 @@ answered used k tag Checked.Off = offFormat k (tagNumber tag)
 abbrev pub messageOf : ℕ → List ℕ → Value → OptionalTag → Answer
 messageOf used key x tag = answered used (keyNumber key) tag (judged (classOf (keyNumber key)) (1 + length (encodeString key)) x)
 
--- the answer to a message with a third value z, which is a tag and the last, or not
+-- the answer to a message with a tag, or with a third value that is none
 abbrev pub taggedOf : ℕ → List ℕ → Value → OptionalTag → Answer
 taggedOf used key x (OptionalTag.Tag t) = messageOf used key x (OptionalTag.Tag t)
 taggedOf used key x OptionalTag.None = refused 20 0
 
+-- a third value that is an integer must be the last
 abbrev pub lastOf : ℕ → List ℕ → Value → ℤ → Values → Answer
 lastOf used key x z no-value = taggedOf used key x (tagOf z)
 lastOf used key x z (value y vs) = refused 20 0

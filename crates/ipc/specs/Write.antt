@@ -14,7 +14,7 @@ use Rattle.ipc.specs.declared.format.Items.{Items}
 use Rattle.ipc.specs.declared.keys.Class.{Class}
 use Rattle.ipc.specs.declared.write.Given.{Given}
 use Rattle.ipc.specs.declared.write.Written.{Written}
-use Rattle.ipc.specs.Header.{largestPayload}
+use Rattle.ipc.specs.Header.{headerLength, largestPayload}
 use Rattle.ipc.specs.Hex.{hexHeader}
 use Rattle.ipc.specs.Ids.{largestTag, within}
 use Rattle.ipc.specs.Keys.{keyText, classOf, isWritten}
@@ -128,22 +128,21 @@ fitted payload room =
     (cond (leb (length (frameOf payload)) room) (Written.Count (length (frameOf payload))) (Written.Refused 44))
     (Written.Refused 43)
 
+-- the refusal of a payload's length in a buffer of a length: 43, 44, or 0 for none
+unfoldable pub lengthFault : ℕ → ℕ → ℕ
+lengthFault size room = cond (leb size largestPayload) (cond (leb (headerLength + size) room) 0 44) 43
+
 -- the first refusal of a message whatever its length: 40, 41, 42, or 0 for none
 unfoldable pub messageFault : ℕ → Given → List ℕ → ℕ → ℕ
 messageFault key given s tag = cond (isWritten key) (cond (valueFits (classOf key) given s) (cond (leb tag largestTag) 0 42) 41) 40
 
 -- the answer to a message: 40 to 44 in document 01's order
 unfoldable pub writeAnswer : ℕ → Given → List ℕ → ℕ → ℕ → Written
-writeAnswer key given s tag room =
-    cond (isWritten key)
-    (cond (valueFits (classOf key) given s)
-    (cond (leb tag largestTag)
-    (fitted (payloadOf key given s tag) room)
-    (Written.Refused 42))
-    (Written.Refused 41))
-    (Written.Refused 40)
+writeAnswer key given s tag room = cond (eqb (messageFault key given s tag) 0) (fitted (payloadOf key given s tag) room) (Written.Refused (messageFault key given s tag))
 
--- what a writer did: its answer, and the whole buffer
+-- what a writer did: its answer, also as document 01's code and count, and the whole buffer
 pub record Outcome (answer : Written) (payload before : List ℕ) (r : Written) (after : List ℕ) : Type 0 where
   pub answered : r ≡ answer
+  pub code : codeOf r ≡ codeOf answer
+  pub count : countOf r ≡ countOf answer
   pub buffer : after ≡ bufferAfter r (frameOf payload) before

@@ -5,6 +5,7 @@ ghost use lib.ListN.{length};
 ghost use Rattle.bencode.specs.String.{stringAt};
 ghost use Rattle.bencode.specs.Integer.{integerAt};
 ghost use Rattle.ipc.specs.Header.{largestPayload};
+ghost use Rattle.ipc.specs.Ids.{within};
 ghost use Rattle.ipc.specs.Format.{anyInteger, upTo, textValue, partValue, offItem, idEnd, torrentEnd, itemEnd, itemsEnd, listPart, formatted};
 use super::header::HEADER_LENGTH;
 use super::ids::OptionalId;
@@ -22,6 +23,9 @@ use bencode::skip::skip_rest;
 use bencode::string::Text;
 use bencode::string::string;
 use bencode::string::string_end;
+
+// The largest port.
+pub const LARGEST_PORT: u16 = 65535;
 
 // A value in its format, or off it.
 pub enum Checked {
@@ -46,19 +50,29 @@ fn any_integer(p: &[u8], at: usize) -> Checked
     }
 }
 
+// Is an integer from 0 to another.
+pub fn is_up_to(z: i64, high: u16) -> bool
+    ensures { λ r. ⌜ r ≡ within 0 high z ⌝ }
+{
+    if z < 0 {
+        return false;
+    }
+    if (high as i64) < z {
+        return false;
+    }
+    true
+}
+
 // An integer from 0 to another.
 fn up_to(p: &[u8], at: usize, high: u16) -> Checked
     ensures { λ r. ⌜ r ≡ upTo high (integerAt (now (p .entry)) at) ⌝ }
 {
     match integer(p, at) {
         Number::Integer { value, end: _ } => {
-            if value < 0 {
-                return Checked::Off;
+            if is_up_to(value, high) {
+                return Checked::Value(Value::Integer(value));
             }
-            if (high as i64) < value {
-                return Checked::Off;
-            }
-            Checked::Value(Value::Integer(value))
+            Checked::Off
         }
         Number::Fault(_) => Checked::Off,
     }
@@ -89,7 +103,7 @@ fn part_value(at: usize, end: usize) -> Value
     }
 }
 
-// An item off its format.
+// An item off its format. The code tells it from a fault of the walk; no answer shows it.
 fn off_item(at: usize) -> Walk
     ensures { λ r. ⌜ r ≡ offItem at ⌝ }
 {
@@ -140,7 +154,7 @@ fn item_end(p: &[u8], at: usize, items: Items) -> Walk
 }
 
 // The offset after the items of a list.
-fn items_end(p: &[u8], from: usize, items: Items) -> Walk
+pub fn items_end(p: &[u8], from: usize, items: Items) -> Walk
     ensures { λ r. ⌜ r ≡ itemsEnd items (now (p .entry)) from ⌝ }
 {
     let mut at = from;
@@ -186,7 +200,7 @@ pub fn check_value(p: &[u8], class: Class, at: usize, end: usize) -> Checked
         Class::Integer => any_integer(p, at),
         Class::TextList => list_part(p, at, end, Items::Texts),
         Class::TorrentList => list_part(p, at, end, Items::Torrents),
-        Class::Port => up_to(p, at, 65535),
+        Class::Port => up_to(p, at, LARGEST_PORT),
         Class::IdList => list_part(p, at, end, Items::Ids),
     }
 }

@@ -15,7 +15,7 @@ use bencode::fault::Fault;
 use bencode::integer::Number;
 use bencode::integer::integer;
 
-// The integer of a key in the dictionary whose entries start at an offset.
+// The integer of a key in the dictionary whose entries start at an offset. A missing key is a fault that no answer shows.
 fn integer_of(p: &[u8], from: usize, key: &[u8]) -> Number
     ensures { λ r. ⌜ r ≡ integerOf (now (p .entry)) (now (key .entry)) from ⌝ }
 {

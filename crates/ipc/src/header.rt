@@ -47,27 +47,33 @@ impl PayloadLength {
     }
 }
 
+// Where the letters of each case would have 0: `A` and `a` are 10.
+pub const UPPER: u8 = 55;
+
+const LOWER: u8 = 87;
+
 // The value of a hex digit of either case, and 16 of any other byte.
+// The bytes after `9`, `F` and `f` are `:`, `G` and `g`.
 fn hex_value(c: u8) -> u32
     ensures { λ r. ⌜ r ≡ hexValue c ⌝ }
 {
-    if c < 48 {
+    if c < b'0' {
         return 16;
     }
-    if c < 58 {
-        return (c - 48) as u32;
+    if c < b':' {
+        return (c - b'0') as u32;
     }
-    if c < 65 {
+    if c < b'A' {
         return 16;
     }
-    if c < 71 {
-        return (c - 55) as u32;
+    if c < b'G' {
+        return (c - UPPER) as u32;
     }
-    if c < 97 {
+    if c < b'a' {
         return 16;
     }
-    if c < 103 {
-        return (c - 87) as u32;
+    if c < b'g' {
+        return (c - LOWER) as u32;
     }
     16
 }

@@ -1,8 +1,12 @@
 // The listed keys: a table of their bytes, formats and whether they are written, and the number of a key.
 ghost use mathlib.Core.Path.{_≡_};
 ghost use Prim.Native.Nat.{_≤_, _<_};
+ghost use lib.ListN.{length};
+ghost use Rattle.bencode.specs.Put.{Put};
+ghost use Rattle.bencode.specs.Value.{encodeString};
 ghost use Rattle.bencode.specs.Bytes.{same};
-ghost use Rattle.ipc.specs.Keys.{keyCount, rowAt, nameAt, keyNumber, classOf, isWritten};
+ghost use Rattle.ipc.specs.Keys.{keyCount, rowAt, nameAt, keyText, keyNumber, classOf, isWritten};
+use bencode::put::put_string;
 
 // The formats of values. A key that is not listed takes any value.
 pub enum Class {
@@ -213,4 +217,36 @@ pub fn is_written(number: u8) -> bool
     }
     let row = row_at(k);
     row.written
+}
+
+// How long the text of a key is, and 0 for a key that is not listed.
+pub fn text_length(number: u8) -> usize
+    ensures { λ r. ⌜ (r ≡ length (keyText number)) × (r ≤ 14) ⌝ }
+{
+    if number == 0 {
+        return 0;
+    }
+    let k = (number - 1) as usize;
+    if LISTED <= k {
+        return 0;
+    }
+    let row = row_at(k);
+    row.length
+}
+
+// Puts the text of a key as a string at an offset of a buffer, and answers the offset after it.
+pub fn put_key(out: &mut [u8], at: usize, number: u8) -> usize
+    ensures { λ r. ⌜ Put (now (out .entry)) at (encodeString (keyText number)) (now (out .exit)) r ⌝ }
+{
+    if number == 0 {
+        return put_string(out, at, b"");
+    }
+    let k = (number - 1) as usize;
+    if LISTED <= k {
+        return put_string(out, at, b"");
+    }
+    let row = row_at(k);
+    let n = row.length;
+    let text = row.text;
+    put_string(out, at, &text[..n])
 }

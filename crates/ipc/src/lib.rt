@@ -1,9 +1,13 @@
 // Frames of Transmission's IPC protocol, version 2: eight hex digits of length, then a bencoded message or handshake.
+mod check;
 mod format;
+pub mod greeting;
 mod handshake;
 pub mod header;
+mod hex;
 pub mod ids;
 pub mod keys;
+mod lengths;
 mod message;
 pub mod read;
 pub mod reading;

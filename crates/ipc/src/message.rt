@@ -27,6 +27,7 @@ pub enum Tail {
     Other,
 }
 
+// What stands at an offset after a message's value.
 fn tag_at(p: &[u8], at: usize) -> Tail
     ensures { λ r. ⌜ r ≡ tailAt (now (p .entry)) at ⌝ }
 {

@@ -43,6 +43,7 @@ fn run_case(head: &mut [u8; 5], body: &mut [u8]) -> bool {
     }
 }
 
+// The number of cases is bounded so that the program is seen to end; no stream has so many.
 fn main() {
     let mut head = [0u8; 5];
     let mut space = [0u8; 131072];

@@ -5,13 +5,16 @@ use Rattle.frame_cases.proofs.main.Statement.{statement}
 use Rattle.frame_cases.proofs.main.Tie as tie
 
 abbrev Inv-loop : tie.InvT-loop
-Inv-loop head₀ body₀ left₀ head body left = Unit
+Inv-loop head₀ body₀ out₀ left₀ head body out left = Unit
 
 abbrev μ-loop : tie.MeasureT-loop
-μ-loop head₀ body₀ left₀ head body left = left
+μ-loop head₀ body₀ out₀ left₀ head body out left = left
 
 slice-aggregate-body : tie.Need-slice-aggregate-body Inv-loop μ-loop
 slice-aggregate-body c = search needs
+
+slice-aggregate-out : tie.Need-slice-aggregate-out Inv-loop μ-loop
+slice-aggregate-out c = search needs
 
 loop-holds : tie.Need-loop-holds Inv-loop μ-loop
 loop-holds c = search needs
@@ -41,6 +44,7 @@ main-spec =
     Inv-loop
     μ-loop
     slice-aggregate-body
+    slice-aggregate-out
     loop-holds
     sub-left
     run-case-requires

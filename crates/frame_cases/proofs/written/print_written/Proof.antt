@@ -1,0 +1,81 @@
+-- `frame_cases::written::print_written` is safe.
+-- Assumes nothing.
+use native.Mathlib.Omega.{arith}
+use lib.ListN.{length, length-take}
+use borrow.Author.Needs.{needs}
+use Rattle.frame_cases.proofs.written.print_written.Statement.{statement}
+use Rattle.frame_cases.proofs.written.print_written.Tie as tie
+use Rattle.frame_cases.proofs.written.print_written.Reads as reads
+use Rattle.frame_cases.proofs.written.print_written.Lts as lts
+use Rattle.cases.proofs.print.Reads as print-reads
+use Rattle.cases.proofs.print_number.Reads as print-number-reads
+use Rattle.frame_cases.proofs.written.print_bytes.Reads as print-bytes-reads
+
+enum-known-written : tie.Need-enum-known-written
+enum-known-written c = search needs
+
+slice-aggregate-print : tie.Need-slice-aggregate-print
+slice-aggregate-print c = search needs
+
+print-requires : tie.Need-print-requires
+print-requires c κs = search needs
+
+print-number-requires : tie.Need-print-number-requires
+print-number-requires c κs = search needs
+
+slice-aggregate-print-2 : tie.Need-slice-aggregate-print-2
+slice-aggregate-print-2 c = search needs
+
+print-requires-2 : tie.Need-print-requires-2
+print-requires-2 c κs = search needs
+
+slice-aggregate-print-bytes : tie.Need-slice-aggregate-print-bytes
+slice-aggregate-print-bytes c = simp length-take (omega arith)
+
+print-bytes-requires : tie.Need-print-bytes-requires
+print-bytes-requires c κs = search needs
+
+enum-known-written-2 : tie.Need-enum-known-written-2
+enum-known-written-2 c = search needs
+
+cast-print-number : tie.Need-cast-print-number
+cast-print-number c = search needs
+
+print-number-requires-2 : tie.Need-print-number-requires-2
+print-number-requires-2 c κs = search needs
+
+slice-aggregate-print-3 : tie.Need-slice-aggregate-print-3
+slice-aggregate-print-3 c = search needs
+
+print-requires-3 : tie.Need-print-requires-3
+print-requires-3 c κs = search needs
+
+slice-aggregate-print-4 : tie.Need-slice-aggregate-print-4
+slice-aggregate-print-4 c = search needs
+
+print-requires-4 : tie.Need-print-requires-4
+print-requires-4 c κs = search needs
+
+returns : tie.Need-returns
+returns c = search needs
+
+pub print-written-spec : {M : Type 1} → statement M
+print-written-spec =
+    tie.close
+    (tie.spec
+    enum-known-written
+    slice-aggregate-print
+    print-requires
+    print-number-requires
+    slice-aggregate-print-2
+    print-requires-2
+    slice-aggregate-print-bytes
+    print-bytes-requires
+    enum-known-written-2
+    cast-print-number
+    print-number-requires-2
+    slice-aggregate-print-3
+    print-requires-3
+    slice-aggregate-print-4
+    print-requires-4
+    returns)

@@ -1,0 +1,125 @@
+-- Laws of frames that are written: their parts one after the other, the answer, and the buffer after it. They hold of any payload.
+-- Assumes nothing.
+use Prim.Native.Nat.{ℕ, _+_, _≤_, _<_}
+use mathlib.Core.Path.{_≡_, refl, sym, ap, subst, _∙_}
+use mathlib.Core.Logic.{⊎-elim}
+use mathlib.Core.List.{List, [], _∷_, flatten}
+use native.Mathlib.Omega.{arith}
+use borrow.Author.Tests.{le-leb, lt-leb}
+use lib.ListN.{length, length-append}
+use Rattle.bencode.specs.Put.{Wrote}
+use Rattle.bencode.proofs.DigitLaws.{lt-or-le}
+use Rattle.bencode.proofs.PutLaws.{Writing, start, finish, wrote-front}
+use Rattle.ipc.specs.declared.write.Written.{Written}
+use Rattle.ipc.specs.Header.{headerLength, largestPayload}
+use Rattle.ipc.specs.Hex.{hexHeader}
+use Rattle.ipc.specs.Write.{codeOf, countOf, frameOf, fitted, lengthFault, Outcome}
+use Rattle.ipc.proofs.HexLaws.{header-length}
+
+-- ---- the frame and its length
+pub frame-length : (p : List ℕ) → length (frameOf p) ≡ headerLength + length p
+unfolding frameOf
+frame-length p = length-append (hexHeader (length p)) p ∙ omega (arith, header-length (length p))
+
+-- ---- the parts of a frame: the header, and then those of the payload
+module _ (payload : List ℕ) (parts : List (List ℕ)) (size : ℕ) (whole : flatten parts ≡ payload) (sized : size ≡ length payload) where
+  frame-parts : flatten (hexHeader size ∷ parts) ≡ frameOf payload
+  unfolding frameOf flatten
+  frame-parts = rw (whole, sized) refl
+
+  -- nothing is written yet
+  pub frame-start : (before : List ℕ) → length (frameOf payload) ≤ length before → Writing before 0 (hexHeader size ∷ parts) before 0 (hexHeader size ∷ parts)
+  frame-start before h = start before 0 (hexHeader size ∷ parts) (rw frame-parts (omega arith))
+
+  -- all parts are written
+  pub frame-finish : {before after : List ℕ} {n : ℕ} → Writing before 0 (hexHeader size ∷ parts) after n [] → Wrote before 0 (frameOf payload) after n
+  frame-finish w = rw frame-parts at (finish w)
+
+-- ---- the answer and the buffer
+pub fitted-count : (p : List ℕ) (room : ℕ) → length p ≤ largestPayload → headerLength + length p ≤ room → fitted p room ≡ Written.Count (headerLength + length p)
+unfolding fitted
+fitted-count p room small fits = rw (le-leb (length p) largestPayload small, frame-length p, le-leb (headerLength + length p) room fits) refl
+
+-- a refusal leaves the buffer as it was
+pub outcome-refused : (answer : Written) (payload before : List ℕ) (code : ℕ) → answer ≡ Written.Refused code → Outcome answer payload before (Written.Refused code) before
+outcome-refused answer payload before code e = record { answered = sym e; code = ap codeOf (sym e); count = ap countOf (sym e); buffer = refl }
+
+-- the same outcome of an answer that is equal
+pub outcome-same : {other answer r : Written} {payload before after : List ℕ} → answer ≡ other → Outcome other payload before r after → Outcome answer payload before r after
+outcome-same e o = record { answered = o .answered ∙ sym e; code = o .code ∙ ap codeOf (sym e); count = o .count ∙ ap countOf (sym e); buffer = o .buffer }
+
+module _ (payload before : List ℕ) where
+  pub outcome-43 : largestPayload < length payload → Outcome (fitted payload (length before)) payload before (Written.Refused 43) before
+  unfolding fitted
+  outcome-43 h = outcome-refused (fitted payload (length before)) payload before 43 (rw (lt-leb (length payload) largestPayload h) refl)
+
+  module _ (small : length payload ≤ largestPayload) where
+    pub outcome-44 : length before < headerLength + length payload → Outcome (fitted payload (length before)) payload before (Written.Refused 44) before
+    unfolding fitted
+    outcome-44 h =
+        outcome-refused (fitted payload (length before)) payload before 44
+        (rw (le-leb (length payload) largestPayload small, frame-length payload, lt-leb (headerLength + length payload) (length before) h) refl)
+
+    -- the frame is written: its bytes are counted
+    pub outcome-count : {after : List ℕ} {n : ℕ} → headerLength + length payload ≤ length before → Wrote before 0 (frameOf payload) after n
+        → Outcome (fitted payload (length before)) payload before (Written.Count n) after
+    outcome-count {n = n} h w =
+        let size : length (frameOf payload) ≡ headerLength + length payload = frame-length payload in
+        let room : length (frameOf payload) ≤ length before = omega arith in
+        let counted : n ≡ headerLength + length payload = omega (arith, w .ended) in
+        let answer : Written.Count n ≡ fitted payload (length before) = ap Written.Count counted ∙ sym (fitted-count payload (length before) small h) in
+        record {
+          answered = answer;
+          code = ap codeOf answer;
+          count = ap countOf answer;
+          buffer = wrote-front room w;
+        }
+
+-- ---- the refusal of a length
+module _ (size room : ℕ) where
+  pub fault-43 : largestPayload < size → 43 ≡ lengthFault size room
+  unfolding lengthFault
+  fault-43 h = rw (lt-leb size largestPayload h) refl
+
+  module _ (small : size ≤ largestPayload) where
+    pub fault-44 : room < headerLength + size → 44 ≡ lengthFault size room
+    unfolding lengthFault
+    fault-44 h = rw (le-leb size largestPayload small, lt-leb (headerLength + size) room h) refl
+
+    pub fault-none : headerLength + size ≤ room → 0 ≡ lengthFault size room
+    unfolding lengthFault
+    fault-none h = rw (le-leb size largestPayload small, le-leb (headerLength + size) room h) refl
+
+-- a size that is a payload's length, or both are too large
+pub record SizeOf (size : ℕ) (payload : List ℕ) : Type 0 where
+  pub over : largestPayload < size → largestPayload < length payload
+  pub is : size ≤ largestPayload → size ≡ length payload
+
+-- a refusal under the name of its code
+coded : (payload before : List ℕ) (size : ℕ) {code k : ℕ} → code ≡ lengthFault size (length before) → k ≡ lengthFault size (length before)
+    → Outcome (fitted payload (length before)) payload before (Written.Refused k) before → Outcome (fitted payload (length before)) payload before (Written.Refused code) before
+coded payload before size e q o = subst (λ (n : ℕ). Outcome (fitted payload (length before)) payload before (Written.Refused n) before) (q ∙ sym e) o
+
+module _ (payload before : List ℕ) (size code : ℕ) (sized : SizeOf size payload) (e : code ≡ lengthFault size (length before)) where
+  pub length-refused : (code ≡ 0 → ⊥) → Outcome (fitted payload (length before)) payload before (Written.Refused code) before
+  length-refused h =
+      ⊎-elim
+      (λ (l : largestPayload < size). coded payload before size e (fault-43 size (length before) l) (outcome-43 payload before (sized .over l)))
+      (λ (l : size ≤ largestPayload). ⊎-elim
+      (λ (m : length before < headerLength + size). coded payload before size e (fault-44 size (length before) l m) (outcome-44 payload before (omega (arith, l, sized .is l)) (omega (arith, m, sized .is l))))
+      (λ (m : headerLength + size ≤ length before). absurd (h (e ∙ sym (fault-none size (length before) l m))))
+      (lt-or-le (length before) (headerLength + size)))
+      (lt-or-le largestPayload size)
+
+  module _ (none : code ≡ 0) where
+    pub length-small : size ≤ largestPayload
+    length-small = ⊎-elim
+        (λ (l : largestPayload < size). absurd (omega (arith, fault-43 size (length before) l, e, none)))
+        (λ (l : size ≤ largestPayload). l)
+        (lt-or-le largestPayload size)
+
+    pub length-room : headerLength + size ≤ length before
+    length-room = ⊎-elim
+        (λ (m : length before < headerLength + size). absurd (omega (arith, fault-44 size (length before) length-small m, e, none)))
+        (λ (m : headerLength + size ≤ length before). m)
+        (lt-or-le (length before) (headerLength + size))

@@ -1,0 +1,83 @@
+// Whether a value that is handed to the writer is in the format of its key.
+ghost use mathlib.Core.Path.{_≡_};
+ghost use Rattle.ipc.specs.Write.{isIdList, nothingFits, integerFits, bytesFit, valueFits};
+use super::format::Items;
+use super::format::LARGEST_PORT;
+use super::format::is_up_to;
+use super::format::items_end;
+use super::keys::Class;
+use super::write::Given;
+use bencode::bytes::byte_at;
+use bencode::fault::Walk;
+
+// Are bytes exactly one list of torrent IDs.
+fn is_id_list(s: &[u8]) -> bool
+    ensures { λ r. ⌜ r ≡ isIdList (now (s .entry)) ⌝ }
+{
+    if byte_at(s, 0) != b'l' {
+        return false;
+    }
+    match items_end(s, 1, Items::Ids) {
+        Walk::End(end) => end == s.len(),
+        Walk::Fault(_) => false,
+    }
+}
+
+fn nothing_fits(class: Class) -> bool
+    ensures { λ r. ⌜ r ≡ nothingFits class ⌝ }
+{
+    match class {
+        Class::Ignored => true,
+        Class::Unlisted => false,
+        Class::Boolean => false,
+        Class::Text => false,
+        Class::Integer => false,
+        Class::TextList => false,
+        Class::TorrentList => false,
+        Class::Port => false,
+        Class::IdList => false,
+    }
+}
+
+fn integer_fits(class: Class, z: i64) -> bool
+    ensures { λ r. ⌜ r ≡ integerFits class z ⌝ }
+{
+    match class {
+        Class::Boolean => is_up_to(z, 1),
+        Class::Integer => true,
+        Class::Port => is_up_to(z, LARGEST_PORT),
+        Class::Unlisted => false,
+        Class::Ignored => false,
+        Class::Text => false,
+        Class::TextList => false,
+        Class::TorrentList => false,
+        Class::IdList => false,
+    }
+}
+
+fn bytes_fit(class: Class, s: &[u8]) -> bool
+    ensures { λ r. ⌜ r ≡ bytesFit class (now (s .entry)) ⌝ }
+{
+    match class {
+        Class::Text => true,
+        Class::IdList => is_id_list(s),
+        Class::Unlisted => false,
+        Class::Boolean => false,
+        Class::Ignored => false,
+        Class::Integer => false,
+        Class::TextList => false,
+        Class::TorrentList => false,
+        Class::Port => false,
+    }
+}
+
+// Is a value in a format; the bytes stand beside it.
+pub fn value_fits(class: Class, given: Given, s: &[u8]) -> bool
+    ensures { λ r. ⌜ r ≡ valueFits class given (now (s .entry)) ⌝ }
+{
+    match given {
+        Given::Nothing => nothing_fits(class),
+        Given::Integer(z) => integer_fits(class, z),
+        Given::Bytes => bytes_fit(class, s),
+    }
+}
