@@ -1,6 +1,6 @@
 -- The reader on the encoding of a value: IDs, texts, torrents and lists say what the value means.
 -- Assumes nothing.
-use Prim.Native.Nat.{ℕ, _+_}
+use Prim.Native.Nat.{ℕ, suc, _+_}
 use mathlib.Core.Path.{_≡_, refl, sym, ap, subst, _∙_}
 use mathlib.Core.Bool.{Bool, true, false, cond, _&&_}
 use mathlib.Core.List.{List, [], _∷_, _++_}
@@ -39,11 +39,18 @@ use Rattle.ipc.proofs.FormatLaws.{item-ends, torrent-other, torrent-no-
 abbrev pub Good : Value → Type 0
 Good v = WellFormed Profile.Loose largestDepth v
 
+-- what stands in a list or a dictionary is as good as the whole. Over any number of levels: with 16 antt writes all of them out
+list-inside : (levels : ℕ) (vs : Values) → WellFormed Profile.Loose (suc levels) (list vs) → All (WellFormed Profile.Loose (suc levels)) vs
+list-inside levels vs h = all-more (WellFormed Profile.Loose levels) (WellFormed Profile.Loose (suc levels)) (formed-more Profile.Loose levels) vs h
+
+dictionary-inside : (levels : ℕ) (es : Entries) → WellFormed Profile.Loose (suc levels) (dictionary es) → AllEntries Profile.Loose (WellFormed Profile.Loose (suc levels)) [] es
+dictionary-inside levels es h = entries-more Profile.Loose (WellFormed Profile.Loose levels) (WellFormed Profile.Loose (suc levels)) (formed-more Profile.Loose levels) [] es h
+
 pub good-list : (vs : Values) → Good (list vs) → All Good vs
-good-list vs h = all-more (WellFormed Profile.Loose 15) Good (formed-more Profile.Loose 15) vs h
+good-list vs h = list-inside 15 vs h
 
 pub good-dictionary : (es : Entries) → Good (dictionary es) → AllEntries Profile.Loose Good [] es
-good-dictionary es h = entries-more Profile.Loose (WellFormed Profile.Loose 15) Good (formed-more Profile.Loose 15) [] es h
+good-dictionary es h = dictionary-inside 15 es h
 
 -- ---- a walk that ends where a test passes, and is a fault where it does not
 abbrev pub Judge : Bool → Walk → ℕ → Type 0

@@ -199,9 +199,29 @@ message-text : (key : List ℕ) (x : Value) (tag : ℕ) → tag ≤ largestTag �
 message-text key x zero h = untagged-text key x
 message-text key x (suc t) h = tagged-text key x (pos (suc t)) (suc t) (record { is = refl; low = omega arith; high = h })
 
+-- a tag is in the range of integers
+tag-fits : (n : ℕ) → n ≤ largestTag → InRange (pos n)
+tag-fits n h = let small : n < 2 ^ 63 = omega arith in small
+
+-- strings and integers are well formed at any level
+string-formed : (levels : ℕ) (text : List ℕ) → WellFormed Profile.Loose levels (string text)
+string-formed zero text = tt
+string-formed (suc levels) text = tt
+
+integer-formed : (levels : ℕ) (z : ℤ) → InRange z → WellFormed Profile.Loose levels (integer z)
+integer-formed zero z f = f
+integer-formed (suc levels) z f = f
+
+-- over any number of levels: with 16 antt writes all of them out
+values-formed : (levels : ℕ) (key : List ℕ) (x : Value) → WellFormed Profile.Loose levels x → WellFormed Profile.Loose (suc levels) (list (value (string key) (value x no-value)))
+values-formed levels key x g = (string-formed levels key, (g, tt))
+
+tagged-formed : (levels : ℕ) (key : List ℕ) (x : Value) (z : ℤ) → InRange z → WellFormed Profile.Loose levels x → WellFormed Profile.Loose (suc levels) (list (value (string key) (value x (value (integer z) no-value))))
+tagged-formed levels key x z f g = (string-formed levels key, (g, (integer-formed levels z f, tt)))
+
 message-formed : (key : List ℕ) (x : Value) (tag : ℕ) → tag ≤ largestTag → WellFormed Profile.Loose 15 x → Good (messageValue key x tag)
-message-formed key x zero h g = (tt, (g, tt))
-message-formed key x (suc t) h g = let small : suc t < 2 ^ 63 = omega arith in (tt, (g, (small, tt)))
+message-formed key x zero h g = values-formed 15 key x g
+message-formed key x (suc t) h g = tagged-formed 15 key x (pos (suc t)) (tag-fits (suc t) h) g
 
 -- a tag that is written is one
 tag-again : (n : ℕ) → 1 ≤ n → n ≤ largestTag → tagOf (pos n) ≡ OptionalTag.Tag (record { 0 = n })
