@@ -13,6 +13,7 @@ pub mod Tried
 pub mod HexLaws
 pub mod OutcomeLaws
 pub mod GreetingLaws
+pub mod ClassLaws
 pub mod CheckLaws
 pub mod LengthLaws
 pub mod Inverts

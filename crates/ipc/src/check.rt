@@ -28,14 +28,7 @@ fn nothing_fits(class: Class) -> bool
 {
     match class {
         Class::Ignored => true,
-        Class::Unlisted => false,
-        Class::Boolean => false,
-        Class::Text => false,
-        Class::Integer => false,
-        Class::TextList => false,
-        Class::TorrentList => false,
-        Class::Port => false,
-        Class::IdList => false,
+        _ => false,
     }
 }
 
@@ -46,12 +39,7 @@ fn integer_fits(class: Class, z: i64) -> bool
         Class::Boolean => is_up_to(z, 1),
         Class::Integer => true,
         Class::Port => is_up_to(z, LARGEST_PORT),
-        Class::Unlisted => false,
-        Class::Ignored => false,
-        Class::Text => false,
-        Class::TextList => false,
-        Class::TorrentList => false,
-        Class::IdList => false,
+        _ => false,
     }
 }
 
@@ -61,13 +49,7 @@ fn bytes_fit(class: Class, s: &[u8]) -> bool
     match class {
         Class::Text => true,
         Class::IdList => is_id_list(s),
-        Class::Unlisted => false,
-        Class::Boolean => false,
-        Class::Ignored => false,
-        Class::Integer => false,
-        Class::TextList => false,
-        Class::TorrentList => false,
-        Class::Port => false,
+        _ => false,
     }
 }
 

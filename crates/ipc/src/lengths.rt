@@ -39,14 +39,7 @@ fn bytes_length(class: Class, s: &[u8]) -> usize
 {
     match class {
         Class::Text => string_length(s),
-        Class::Unlisted => cut(s.len()),
-        Class::Boolean => cut(s.len()),
-        Class::Ignored => cut(s.len()),
-        Class::Integer => cut(s.len()),
-        Class::TextList => cut(s.len()),
-        Class::TorrentList => cut(s.len()),
-        Class::Port => cut(s.len()),
-        Class::IdList => cut(s.len()),
+        _ => cut(s.len()),
     }
 }
 

@@ -55,14 +55,7 @@ fn put_given(out: &mut [u8], at: usize, class: Class, s: &[u8]) -> usize
 {
     match class {
         Class::Text => put_string(out, at, s),
-        Class::Unlisted => put_bytes(out, at, s),
-        Class::Boolean => put_bytes(out, at, s),
-        Class::Ignored => put_bytes(out, at, s),
-        Class::Integer => put_bytes(out, at, s),
-        Class::TextList => put_bytes(out, at, s),
-        Class::TorrentList => put_bytes(out, at, s),
-        Class::Port => put_bytes(out, at, s),
-        Class::IdList => put_bytes(out, at, s),
+        _ => put_bytes(out, at, s),
     }
 }
 

@@ -3,6 +3,7 @@
 use mathlib.Core.Path.{sym, ap, _∙_}
 use Rattle.ipc.specs.declared.keys.Class.{Class}
 use Rattle.ipc.specs.Write.{bytesFit}
+use Rattle.ipc.proofs.ClassLaws.{bytes-off}
 use borrow.Author.Needs.{needs}
 use Rattle.ipc.proofs.check.bytes_fit.Statement.{statement}
 use Rattle.ipc.proofs.check.bytes_fit.Tie as tie
@@ -16,27 +17,6 @@ enum-told-2 c = search needs
 is-id-list-requires : tie.Need-is-id-list-requires
 is-id-list-requires c κs = search needs
 
-enum-told-3 : tie.Need-enum-told-3
-enum-told-3 c = search needs
-
-enum-told-4 : tie.Need-enum-told-4
-enum-told-4 c = search needs
-
-enum-told-5 : tie.Need-enum-told-5
-enum-told-5 c = search needs
-
-enum-told-6 : tie.Need-enum-told-6
-enum-told-6 c = search needs
-
-enum-told-7 : tie.Need-enum-told-7
-enum-told-7 c = search needs
-
-enum-told-8 : tie.Need-enum-told-8
-enum-told-8 c = search needs
-
-enum-told-9 : tie.Need-enum-told-9
-enum-told-9 c = search needs
-
 returns : tie.Need-returns
 returns c = search needs
 
@@ -44,46 +24,8 @@ returns-2 : tie.Need-returns-2
 returns-2 c = c .is-id-list .ensures ∙ ap (λ (k : Class). bytesFit k (c .before .before .before .before .args .s .now)) (sym (c .before .enum-told2 .given .1))
 
 returns-3 : tie.Need-returns-3
-returns-3 c = search needs
-
-returns-4 : tie.Need-returns-4
-returns-4 c = search needs
-
-returns-5 : tie.Need-returns-5
-returns-5 c = search needs
-
-returns-6 : tie.Need-returns-6
-returns-6 c = search needs
-
-returns-7 : tie.Need-returns-7
-returns-7 c = search needs
-
-returns-8 : tie.Need-returns-8
-returns-8 c = search needs
-
-returns-9 : tie.Need-returns-9
-returns-9 c = search needs
+returns-3 c = bytes-off (c .before .before .args .s .now) (c .before .before .args .class) (c .match .keys3)
 
 pub bytes-fit-spec : {M : Type 1} → statement M
 bytes-fit-spec =
-    tie.close
-    (tie.spec
-    enum-told
-    enum-told-2
-    is-id-list-requires
-    enum-told-3
-    enum-told-4
-    enum-told-5
-    enum-told-6
-    enum-told-7
-    enum-told-8
-    enum-told-9
-    returns
-    returns-2
-    returns-3
-    returns-4
-    returns-5
-    returns-6
-    returns-7
-    returns-8
-    returns-9)
+    tie.close (tie.spec enum-told enum-told-2 is-id-list-requires returns returns-2 returns-3)

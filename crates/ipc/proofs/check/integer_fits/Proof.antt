@@ -6,6 +6,7 @@ use Rattle.ipc.specs.declared.keys.Class.{Class}
 use Rattle.ipc.specs.Ids.{within}
 use Rattle.ipc.specs.Format.{largestPort}
 use Rattle.ipc.specs.Write.{integerFits}
+use Rattle.ipc.proofs.ClassLaws.{integer-off}
 use Rattle.ipc.proofs.Ranges.{same}
 use borrow.Author.Needs.{needs}
 use Rattle.ipc.proofs.check.integer_fits.Statement.{statement}
@@ -26,24 +27,6 @@ enum-told-3 c = search needs
 is-up-to-requires-2 : tie.Need-is-up-to-requires-2
 is-up-to-requires-2 c κs = search needs
 
-enum-told-4 : tie.Need-enum-told-4
-enum-told-4 c = search needs
-
-enum-told-5 : tie.Need-enum-told-5
-enum-told-5 c = search needs
-
-enum-told-6 : tie.Need-enum-told-6
-enum-told-6 c = search needs
-
-enum-told-7 : tie.Need-enum-told-7
-enum-told-7 c = search needs
-
-enum-told-8 : tie.Need-enum-told-8
-enum-told-8 c = search needs
-
-enum-told-9 : tie.Need-enum-told-9
-enum-told-9 c = search needs
-
 returns : tie.Need-returns
 returns c = c .is-up-to .ensures ∙ ap (λ (x : ℤ). within 0 1 x) (same (c .before .before .before .args .z) (c .before .before .before .fits .z)) ∙ ap (λ (k : Class). integerFits k (c .before .before .before .args .z)) (sym (c .before .enum-told .given .1))
 
@@ -54,22 +37,7 @@ returns-3 : tie.Need-returns-3
 returns-3 c = c .is-up-to2 .ensures ∙ ap (λ (x : ℤ). within 0 largestPort x) (same (c .before .before .before .args .z) (c .before .before .before .fits .z)) ∙ ap (λ (k : Class). integerFits k (c .before .before .before .args .z)) (sym (c .before .enum-told3 .given .1))
 
 returns-4 : tie.Need-returns-4
-returns-4 c = search needs
-
-returns-5 : tie.Need-returns-5
-returns-5 c = search needs
-
-returns-6 : tie.Need-returns-6
-returns-6 c = search needs
-
-returns-7 : tie.Need-returns-7
-returns-7 c = search needs
-
-returns-8 : tie.Need-returns-8
-returns-8 c = search needs
-
-returns-9 : tie.Need-returns-9
-returns-9 c = search needs
+returns-4 c = integer-off (c .before .args .class) (c .before .args .z) (c .match .keys4)
 
 pub integer-fits-spec : {M : Type 1} → statement M
 integer-fits-spec =
@@ -80,18 +48,7 @@ integer-fits-spec =
     enum-told-2
     enum-told-3
     is-up-to-requires-2
-    enum-told-4
-    enum-told-5
-    enum-told-6
-    enum-told-7
-    enum-told-8
-    enum-told-9
     returns
     returns-2
     returns-3
-    returns-4
-    returns-5
-    returns-6
-    returns-7
-    returns-8
-    returns-9)
+    returns-4)
