@@ -1,7 +1,7 @@
 -- Laws of the listed keys. The table of the source is the list of the document: one computation, at `row_at`.
 -- Assumes nothing.
 use Prim.Native.Nat.{ℕ, zero, suc, _-_, _≤_, _<_, max}
-use mathlib.Core.Path.{_≡_, refl, ap, subst, _∙_}
+use mathlib.Core.Path.{_≡_, refl, sym, ap, subst, _∙_}
 use mathlib.Core.Bool.{true, false, cond}
 use mathlib.Core.List.{List, [], _∷_, map}
 use native.Mathlib.Nat.{le-of-suc-le-suc, not-suc-le-zero}
@@ -13,7 +13,7 @@ use Rattle.bencode.specs.Put.{Put}
 use Rattle.bencode.specs.Value.{encodeString}
 use Rattle.ipc.specs.declared.keys.KeyRow.{KeyRow}
 use Rattle.ipc.specs.Ascii.{ascii}
-use Rattle.ipc.specs.Keys.{Listed, listed, unlisted, rowOf, rowAt, nameAt, numberFrom, keyNumber, listedAt, keyText}
+use Rattle.ipc.specs.Keys.{Listed, listed, unlisted, rowOf, rowAt, nameAt, numberFrom, keyNumber, listedAt, classOf, isWritten, keyText}
 
 -- what stands past the end does not matter inside
 inside-any : {A : Type 0} (l : List A) (k : ℕ) (d e : A) → k < length l → getD l k d ≡ getD l k e
@@ -26,17 +26,23 @@ unfolding listed rowAt
 row-right d k h = inside-any (map rowOf listed) k d (rowOf unlisted) h ∙ List·getD-map rowOf listed k unlisted
 
 -- the bytes of a row
-pub row-name : (k : ℕ) (row : KeyRow) → row ≡ rowAt k → take (row .length) (row .text) ≡ nameAt k
-unfolding rowAt nameAt
-row-name k row e =
-    let n = ascii (getD listed k unlisted .name) in
-    ap (λ (r : KeyRow). take (r .length) (r .text)) e ∙ take-at n (replicate (14 - length n) 0) (length n) refl
+module _ (x : Listed) (row : KeyRow) (e : row ≡ rowOf x) where
+  pub row-text : take (row .length) (row .text) ≡ ascii (x .name)
+  row-text =
+      let n = ascii (x .name) in
+      ap (λ (r : KeyRow). take (r .length) (r .text)) e ∙ take-at n (replicate (14 - length n) 0) (length n) refl
 
-pub row-fits : (k : ℕ) (row : KeyRow) → row ≡ rowAt k → row .length ≤ length (row .text)
-unfolding rowAt
-row-fits k row e =
-    let n = ascii (getD listed k unlisted .name) in
-    rw e (omega (arith, length-append n (replicate (14 - length n) 0)))
+  pub row-fits : row .length ≤ length (row .text)
+  row-fits = let n = ascii (x .name) in rw e (omega (arith, length-append n (replicate (14 - length n) 0)))
+
+module _ (k : ℕ) (row : KeyRow) (e : row ≡ rowAt k) where
+  pub table-name : take (row .length) (row .text) ≡ nameAt k
+  unfolding rowAt nameAt
+  table-name = row-text (getD listed k unlisted) row e
+
+  pub table-fits : row .length ≤ length (row .text)
+  unfolding rowAt
+  table-fits = row-fits (getD listed k unlisted) row e
 
 module _ (text : List ℕ) (k : ℕ) where
   number-step : k < 20 → numberFrom (suc k) (drop k listed) text ≡ cond (same (nameAt k) text) (suc k) (numberFrom (suc (suc k)) (drop (suc k) listed) text)
@@ -66,6 +72,36 @@ pub listed-past : (n : ℕ) → (n ≡ 0 → ⊥) → 20 ≤ n - 1 → listedAt 
 unfolding listed
 listed-past n h l = listed-at n h ∙ List·getD-eq-default listed unlisted {n = n - 1} l
 
+-- ---- the row of a number
+module _ (n : ℕ) where
+  pub row-none : n ≡ 0 → rowOf unlisted ≡ rowOf (listedAt n)
+  row-none e = rw e refl
+
+  module _ (h : n ≡ 0 → ⊥) where
+    pub row-past : 20 ≤ n - 1 → rowOf unlisted ≡ rowOf (listedAt n)
+    row-past l = ap rowOf (sym (listed-past n h l))
+
+    pub row-here : rowAt (n - 1) ≡ rowOf (listedAt n)
+    unfolding rowAt
+    row-here = ap rowOf (sym (listed-at n h))
+
+  module _ (row : KeyRow) (e : row ≡ rowOf (listedAt n)) where
+    pub row-class : row .class ≡ classOf n
+    unfolding classOf
+    row-class = ap (λ (r : KeyRow). r .class) e
+
+    pub row-written : row .written ≡ isWritten n
+    unfolding isWritten
+    row-written = ap (λ (r : KeyRow). r .written) e
+
+    pub row-length : row .length ≡ length (keyText n)
+    unfolding keyText
+    row-length = ap (λ (r : KeyRow). r .length) e
+
+    pub row-key : take (row .length) (row .text) ≡ keyText n
+    unfolding keyText
+    row-key = row-text (listedAt n) row e
+
 -- ---- the text of a key
 -- how long the longest text is: one computation over the list
 longest : List Listed → ℕ
@@ -82,27 +118,10 @@ longest-listed : longest listed ≡ 14
 unfolding longest listed ascii
 longest-listed = refl
 
-module _ (n : ℕ) where
-  pub text-none : n ≡ 0 → keyText n ≡ []
-  unfolding keyText ascii
-  text-none e = rw e refl
-
-  module _ (h : n ≡ 0 → ⊥) where
-    pub text-past : 20 ≤ n - 1 → keyText n ≡ []
-    unfolding keyText ascii
-    text-past l = ap (λ (x : Listed). ascii (x .name)) (listed-past n h l)
-
-    pub text-at : keyText n ≡ nameAt (n - 1)
-    unfolding keyText nameAt
-    text-at = ap (λ (x : Listed). ascii (x .name)) (listed-at n h)
-
-pub row-length : (k : ℕ) (row : KeyRow) → row ≡ rowAt k → row .length ≡ length (nameAt k)
-unfolding rowAt nameAt
-row-length k row e = ap (λ (r : KeyRow). r .length) e
-
-pub name-short : (k : ℕ) → length (nameAt k) ≤ 14
-unfolding nameAt
-name-short k = omega (arith, below-longest listed k, longest-listed)
+pub key-short : (n : ℕ) → length (keyText n) ≤ 14
+unfolding keyText ascii
+key-short zero = omega arith
+key-short (suc k) = omega (arith, below-longest listed k, longest-listed)
 
 -- a string that is put is put for an equal text
 pub put-text : {before after t u : List ℕ} {at end : ℕ} → t ≡ u → Put before at (encodeString t) after end → Put before at (encodeString u) after end

@@ -5,7 +5,7 @@ ghost use lib.ListN.{length};
 ghost use Rattle.bencode.specs.Put.{Put};
 ghost use Rattle.bencode.specs.Value.{encodeString};
 ghost use Rattle.bencode.specs.Bytes.{same};
-ghost use Rattle.ipc.specs.Keys.{keyCount, rowAt, nameAt, keyText, keyNumber, classOf, isWritten};
+ghost use Rattle.ipc.specs.Keys.{keyCount, rowOf, rowAt, nameAt, listedAt, keyText, keyNumber, classOf, isWritten};
 use bencode::put::put_string;
 
 // The formats of values. A key that is not listed takes any value.
@@ -156,6 +156,14 @@ const KEYS: [KeyRow; LISTED] = [
     },
 ];
 
+// What stands for a key that is not listed.
+const UNLISTED: KeyRow = KeyRow {
+    text: [0; 14],
+    length: 0,
+    class: Class::Unlisted,
+    written: false,
+};
+
 // A row of the table.
 fn row_at(k: usize) -> KeyRow
     requires { ⌜ k < keyCount ⌝ }
@@ -189,18 +197,25 @@ pub fn key_number(text: &[u8]) -> u8
     0
 }
 
+// The row of a key, and that of no key for 0 and past the last number.
+fn row_of(number: u8) -> KeyRow
+    ensures { λ r. ⌜ r ≡ rowOf (listedAt number) ⌝ }
+{
+    if number == 0 {
+        return UNLISTED;
+    }
+    let k = (number - 1) as usize;
+    if LISTED <= k {
+        return UNLISTED;
+    }
+    row_at(k)
+}
+
 // The format of the values of a key.
 pub fn class_of(number: u8) -> Class
     ensures { λ r. ⌜ r ≡ classOf number ⌝ }
 {
-    if number == 0 {
-        return Class::Unlisted;
-    }
-    let k = (number - 1) as usize;
-    if LISTED <= k {
-        return Class::Unlisted;
-    }
-    let row = row_at(k);
+    let row = row_of(number);
     row.class
 }
 
@@ -208,14 +223,7 @@ pub fn class_of(number: u8) -> Class
 pub fn is_written(number: u8) -> bool
     ensures { λ r. ⌜ r ≡ isWritten number ⌝ }
 {
-    if number == 0 {
-        return false;
-    }
-    let k = (number - 1) as usize;
-    if LISTED <= k {
-        return false;
-    }
-    let row = row_at(k);
+    let row = row_of(number);
     row.written
 }
 
@@ -223,14 +231,7 @@ pub fn is_written(number: u8) -> bool
 pub fn text_length(number: u8) -> usize
     ensures { λ r. ⌜ (r ≡ length (keyText number)) × (r ≤ 14) ⌝ }
 {
-    if number == 0 {
-        return 0;
-    }
-    let k = (number - 1) as usize;
-    if LISTED <= k {
-        return 0;
-    }
-    let row = row_at(k);
+    let row = row_of(number);
     row.length
 }
 
@@ -238,14 +239,7 @@ pub fn text_length(number: u8) -> usize
 pub fn put_key(out: &mut [u8], at: usize, number: u8) -> usize
     ensures { λ r. ⌜ Put (now (out .entry)) at (encodeString (keyText number)) (now (out .exit)) r ⌝ }
 {
-    if number == 0 {
-        return put_string(out, at, b"");
-    }
-    let k = (number - 1) as usize;
-    if LISTED <= k {
-        return put_string(out, at, b"");
-    }
-    let row = row_at(k);
+    let row = row_of(number);
     let n = row.length;
     let text = row.text;
     put_string(out, at, &text[..n])
