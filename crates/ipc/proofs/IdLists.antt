@@ -1,13 +1,13 @@
 -- Bytes that are a list of torrent IDs are the encoding of a list of values that are torrent IDs.
 -- Assumes nothing.
-use Prim.Native.Nat.{ℕ, zero, suc, _+_, _-_}
+use Prim.Native.Nat.{ℕ, zero, suc, _+_, _-_, _≤_}
 use mathlib.Core.Path.{_≡_, refl, sym, ap, _∙_}
 use mathlib.Core.Bool.{Bool, true, false, cond, _&&_}
 use mathlib.Core.List.{List, [], append-nil}
 use native.Mathlib.Omega.{arith}
-use borrow.Author.Tests.{eqb-true, eq-eqb}
-use lib.Dec.{eqb}
-use lib.IntN.{ℤ}
+use borrow.Author.Tests.{eqb-true, eq-eqb, leb-true}
+use lib.Dec.{eqb, leb}
+use lib.IntN.{ℤ, pos, negsuc}
 use lib.ListN.{length}
 use Rattle.bencode.specs.declared.fault.Fault.{Fault}
 use Rattle.bencode.specs.declared.fault.Walk.{Walk}
@@ -16,7 +16,7 @@ use Rattle.bencode.specs.declared.profile.Profile.{Profile}
 use Rattle.bencode.specs.Bytes.{letterL, byteAt, Begins}
 use Rattle.bencode.specs.Depth.{largestDepth}
 use Rattle.bencode.specs.Fault.{fault}
-use Rattle.bencode.specs.Integer.{integerAt}
+use Rattle.bencode.specs.Integer.{InRange, integerAt}
 use Rattle.bencode.specs.Loop.{done, after, repeat}
 use Rattle.bencode.specs.Scalar.{scalarAt}
 use Rattle.bencode.specs.Value.{Value, integer, string, list, dictionary, Values, no-value, value, encode, All, WellFormed}
@@ -29,7 +29,8 @@ use Rattle.bencode.proofs.WalkLaws.{value-scalar, value-list}
 use Rattle.ipc.specs.declared.format.Items.{Items}
 use Rattle.ipc.specs.declared.ids.OptionalId.{OptionalId}
 use Rattle.ipc.specs.Format.{idThen, idNumber, idEnd, itemEnd, itemsEnd}
-use Rattle.ipc.specs.Ids.{torrentIdOf}
+use Rattle.ipc.specs.Demands.{IdList, IdListExactly}
+use Rattle.ipc.specs.Ids.{largestId, within, torrentIdOf}
 use Rattle.ipc.specs.Meaning.{isId, every}
 use Rattle.ipc.specs.Write.{endsAt, isIdList}
 use Rattle.ipc.proofs.Inverts.{and-left, and-right}
@@ -85,24 +86,25 @@ unfolding payloadAt
 ids-payload p b e = rw (ids-value p (length p) b e, eq-eqb (length p) (length p) refl) refl
 
 -- ---- which values it holds
--- some bytes are the encoding of a list of torrent IDs
-pub record IdList (s : List ℕ) : Type 0 where
-  pub ids : Values
-  pub formed : WellFormed Profile.Loose 15 (list ids)
-  pub each : every isId ids ≡ true
-  pub is : s ≡ encode (list ids)
+-- torrent IDs are well formed at any level
+id-range : (z : ℤ) → within 1 largestId z ≡ true → InRange z
+id-range (pos n) e = let h : n ≤ largestId = leb-true n largestId (and-right (leb 1 n) (leb n largestId) e) in omega arith
+id-range (negsuc n) e = clash false e refl
 
--- integers are well formed at any level
-id-formed : (levels : ℕ) (v : Value) → Good v → isId v ≡ true → WellFormed Profile.Loose levels v
-id-formed zero (integer z) g e = g
-id-formed (suc levels) (integer z) g e = g
-id-formed levels (string text) g e = clash false e refl
-id-formed levels (list vs) g e = clash false e refl
-id-formed levels (dictionary es) g e = clash false e refl
+id-formed : (levels : ℕ) (v : Value) → isId v ≡ true → WellFormed Profile.Loose levels v
+id-formed zero (integer z) e = id-range z e
+id-formed (suc levels) (integer z) e = id-range z e
+id-formed levels (string text) e = clash false e refl
+id-formed levels (list vs) e = clash false e refl
+id-formed levels (dictionary es) e = clash false e refl
 
-ids-formed : (levels : ℕ) (vs : Values) → All Good vs → every isId vs ≡ true → All (WellFormed Profile.Loose levels) vs
-ids-formed levels no-value g e = tt
-ids-formed levels (value v vs) g e = (id-formed levels v (g .0) (and-left (isId v) (every isId vs) e), ids-formed levels vs (g .1) (and-right (isId v) (every isId vs) e))
+ids-formed : (levels : ℕ) (vs : Values) → every isId vs ≡ true → All (WellFormed Profile.Loose levels) vs
+ids-formed levels no-value e = tt
+ids-formed levels (value v vs) e = (id-formed levels v (and-left (isId v) (every isId vs) e), ids-formed levels vs (and-right (isId v) (every isId vs) e))
+
+-- the level that a list takes is a variable here: a numeral would be written out
+pub id-list-formed : (levels : ℕ) (vs : Values) → every isId vs ≡ true → WellFormed Profile.Loose (suc levels) (list vs)
+id-list-formed levels vs e = ids-formed levels vs e
 
 -- a walk that ends is one of items that pass the test
 judge-true : (t : Bool) (w : Walk) (e : ℕ) → Judge t w e → w ≡ Walk.End e → t ≡ true
@@ -126,7 +128,7 @@ ids-encoded s first e =
     kinds : (v : Value) → Good v → s ≡ encode v → Begins s 0 (encode v) (length s) → IdList s
     kinds (integer z) g q b = absurd (omega (arith, starts (integer z) s 0 (length s) b))
     kinds (string text) g q b = absurd (omega (arith, starts (string text) s 0 (length s) b))
-    kinds (list vs) g q b = record { ids = vs; formed = ids-formed 14 vs (good-list vs g) (each-id s vs g b e); each = each-id s vs g b e; is = q }
+    kinds (list vs) g q b = record { ids = vs; each = each-id s vs g b e; is = q }
     kinds (dictionary es) g q b = absurd (omega (arith, starts (dictionary es) s 0 (length s) b))
 
 -- a walk that ends at an offset
@@ -134,10 +136,29 @@ ends-there : (end : ℕ) (w : Walk) → endsAt end w ≡ true → w ≡ Walk.End
 ends-there end (Walk.End e) q = ap (λ (k : ℕ). Walk.End k) (eqb-true e end q)
 ends-there end (Walk.Fault f) q = clash false q refl
 
-pub id-list : (s : List ℕ) → isIdList s ≡ true → IdList s
+id-list : (s : List ℕ) → isIdList s ≡ true → IdList s
 unfolding isIdList
 id-list s e = go (eqb (byteAt s 0) letterL) refl e
   where
     go : (t : Bool) → eqb (byteAt s 0) letterL ≡ t → t && endsAt (length s) (itemsEnd Items.Ids s 1) ≡ true → IdList s
     go true q e = ids-encoded s (eqb-true (byteAt s 0) letterL q) (ends-there (length s) (itemsEnd Items.Ids s 1) e)
     go false q e = clash false e refl
+
+-- ---- and the other way round
+judge-end : (t : Bool) (w : Walk) (e : ℕ) → t ≡ true → Judge t w e → w ≡ Walk.End e
+judge-end true w e h j = j
+judge-end false w e h j = clash false h refl
+
+list-first : (s : List ℕ) (vs : Values) → Begins s 0 (encode (list vs)) (length s) → byteAt s 0 ≡ letterL
+list-first s vs b = starts (list vs) s 0 (length s) b
+
+list-id : (s : List ℕ) → IdList s → isIdList s ≡ true
+unfolding isIdList
+list-id s d =
+    let b = all-begins s (encode (list (d .ids))) (d .is) in
+    let ends : itemsEnd Items.Ids s 1 ≡ Walk.End (length s) =
+    judge-end (every isId (d .ids)) (itemsEnd Items.Ids s 1) (length s) (d .each) (items-mean s Items.Ids (d .ids) 1 (length s) (ids-formed largestDepth (d .ids) (d .each)) (items-begin s 0 (length s) (d .ids) b)) in
+    rw (eq-eqb (byteAt s 0) letterL (list-first s (d .ids) b), ends, eq-eqb (length s) (length s) refl) refl
+
+pub id-list-exactly : IdListExactly
+id-list-exactly s = (id-list s, list-id s)

@@ -3,23 +3,34 @@
 use Prim.Native.Nat.{ℕ, _+_, _≤_, _<_}
 use mathlib.Core.Path.{_≡_, refl, sym, ap, subst, _∙_}
 use mathlib.Core.Logic.{⊎-elim}
-use mathlib.Core.List.{List, [], _∷_, flatten}
+use mathlib.Core.List.{List, [], _∷_, _++_, flatten}
 use native.Mathlib.Omega.{arith}
 use borrow.Author.Tests.{le-leb, lt-leb}
 use lib.ListN.{length, length-append}
 use Rattle.bencode.specs.Put.{Wrote}
 use Rattle.bencode.proofs.DigitLaws.{lt-or-le}
 use Rattle.bencode.proofs.PutLaws.{Writing, start, finish, wrote-front}
+use Rattle.bencode.specs.Value.{encodeString}
+use Rattle.ipc.specs.declared.write.Given.{Given}
 use Rattle.ipc.specs.declared.write.Written.{Written}
 use Rattle.ipc.specs.Header.{headerLength, largestPayload}
 use Rattle.ipc.specs.Hex.{hexHeader}
-use Rattle.ipc.specs.Write.{codeOf, countOf, frameOf, fitted, lengthFault, Outcome}
+use Rattle.ipc.specs.Keys.{keyText, classOf}
+use Rattle.ipc.specs.Write.{encodeGiven, encodeTag, payloadOf, codeOf, countOf, frameOf, fitted, lengthFault, Outcome}
 use Rattle.ipc.proofs.HexLaws.{header-length}
 
 -- ---- the frame and its length
 pub frame-length : (p : List ℕ) → length (frameOf p) ≡ headerLength + length p
 unfolding frameOf
 frame-length p = length-append (hexHeader (length p)) p ∙ omega (arith, header-length (length p))
+
+-- ---- the length of a message's payload
+parts-length : (a b c : List ℕ) → length (108 ∷ a ++ (b ++ (c ++ (101 ∷ [])))) ≡ length a + length b + length c + 2
+parts-length a b c = omega (arith, length-append a (b ++ (c ++ (101 ∷ []))), length-append b (c ++ (101 ∷ [])), length-append c (101 ∷ []))
+
+pub payload-length : (key : ℕ) (given : Given) (s : List ℕ) (tag : ℕ) → length (payloadOf key given s tag) ≡ length (encodeString (keyText key)) + length (encodeGiven (classOf key) given s) + length (encodeTag tag) + 2
+unfolding payloadOf flatten
+payload-length key given s tag = parts-length (encodeString (keyText key)) (encodeGiven (classOf key) given s) (encodeTag tag)
 
 -- ---- the parts of a frame: the header, and then those of the payload
 module _ (payload : List ℕ) (parts : List (List ℕ)) (size : ℕ) (whole : flatten parts ≡ payload) (sized : size ≡ length payload) where

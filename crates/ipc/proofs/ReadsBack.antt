@@ -35,10 +35,10 @@ use Rattle.ipc.specs.Ids.{largestTag, tagOf}
 use Rattle.ipc.specs.Keys.{keyText, Listed, listed, unlisted, numberFrom, keyNumber, classOf, isWritten}
 use Rattle.ipc.specs.Meaning.{wholeAt, judged, meaning}
 use Rattle.ipc.specs.Write.{nothingFits, integerFits, bytesFit, valueFits, encodeGiven, encodeTag, payloadOf, frameOf, fitted, writeAnswer, messageFault}
-use Rattle.ipc.specs.Demands.{GivenFits, Named, ReadsBack, BufferReadsBack, HandshakeReadsBack}
+use Rattle.ipc.specs.Demands.{IdList, GivenFits, Named, ReadsBack, BufferReadsBack, HandshakeReadsBack}
 use Rattle.ipc.proofs.Accepts.{answers-meaning}
 use Rattle.ipc.proofs.HexLaws.{header-length, header-digits, from-header}
-use Rattle.ipc.proofs.IdLists.{IdList, id-list}
+use Rattle.ipc.proofs.IdLists.{id-list-formed, id-list-exactly}
 use Rattle.ipc.proofs.Inverts.{and-left, and-right, spelling, untagged-text, tagged-text}
 use Rattle.ipc.proofs.Means.{Good}
 use Rattle.ipc.proofs.WritesBack.{Stands, text-stands, stands-in, payload-again}
@@ -161,7 +161,7 @@ module _ (s : List ℕ) (at : ℕ) where
   ids-handed d = record {
     value = list (d .ids);
     held = wholeAt at (list (d .ids));
-    formed = d .formed;
+    formed = id-list-formed 14 (d .ids) (d .each);
     same = d .is;
     judges = rw (d .each) refl;
     names = λ f b. ids-named f d b;
@@ -176,7 +176,7 @@ module _ (s : List ℕ) (at : ℕ) where
   bytes-handed Class.TextList e = clash false e refl
   bytes-handed Class.TorrentList e = clash false e refl
   bytes-handed Class.Port e = clash false e refl
-  bytes-handed Class.IdList e = ids-handed (id-list s e)
+  bytes-handed Class.IdList e = ids-handed (id-list-exactly s .0 e)
 
   handed : (class : Class) (given : Given) → GivenFits given → valueFits class given s ≡ true → Handed class given s at
   unfolding valueFits

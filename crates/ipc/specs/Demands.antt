@@ -10,7 +10,7 @@ use Rattle.bencode.specs.declared.profile.Profile.{Profile}
 use Rattle.bencode.specs.Bytes.{part as bytesFrom}
 use Rattle.bencode.specs.Depth.{largestDepth}
 use Rattle.bencode.specs.Integer.{InRange}
-use Rattle.bencode.specs.Value.{Value, encode, WellFormed}
+use Rattle.bencode.specs.Value.{Value, list, Values, encode, WellFormed}
 use Rattle.ipc.specs.declared.keys.Class.{Class}
 use Rattle.ipc.specs.declared.write.Given.{Given}
 use Rattle.ipc.specs.declared.write.Written.{Written}
@@ -19,8 +19,8 @@ use Rattle.ipc.specs.Header.{headerLength, largestPayload, hexValue}
 use Rattle.ipc.specs.Frame.{readFrame}
 use Rattle.ipc.specs.Hex.{upperHeader}
 use Rattle.ipc.specs.Keys.{classOf, isWritten}
-use Rattle.ipc.specs.Meaning.{meaning}
-use Rattle.ipc.specs.Write.{payloadOf, frameOf, writeAnswer, Outcome}
+use Rattle.ipc.specs.Meaning.{isId, every, meaning}
+use Rattle.ipc.specs.Write.{isIdList, payloadOf, frameOf, writeAnswer, Outcome}
 use Rattle.ipc.specs.Greeting.{handshakePayload, handshakeWritten}
 
 -- bytes that are hex digits of either case
@@ -55,6 +55,16 @@ abbrev pub AcceptsExactly : Type 0
 AcceptsExactly = (s : List ℕ) (a : Answer) → (a .code ≡ 0) ⊎ (20 ≤ a .code) → (readFrame s ≡ a) ↔ Framed s a
 
 -- ---- writing
+-- bytes that are the encoding of a list of torrent IDs
+pub record IdList (s : List ℕ) : Type 0 where
+  pub ids : Values
+  pub each : every isId ids ≡ true
+  pub is : s ≡ encode (list ids)
+
+-- a list of torrent IDs that is handed in is judged by the grammar, whatever its length
+abbrev pub IdListExactly : Type 0
+IdListExactly = (s : List ℕ) → (isIdList s ≡ true) ↔ IdList s
+
 -- an integer that is handed in fits the machine's 64 bits
 abbrev pub GivenFits : Given → Type 0
 GivenFits Given.Nothing = Unit {0}

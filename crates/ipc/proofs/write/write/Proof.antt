@@ -1,13 +1,13 @@
 -- `ipc::write::write` answers as its definition says, and writes the frame or nothing.
 -- Assumes nothing.
 use Prim.Native.Nat.{ℕ, _+_, _≤_, _<_, min}
-use mathlib.Core.List.{List, [], _∷_, _++_, flatten}
+use mathlib.Core.List.{List}
 use mathlib.Core.Path.{_≡_, refl, subst}
 use native.Mathlib.Omega.{arith}
 use denote.Ref.{now}
 use borrow.Author.Needs.{needs}
 use borrow.Author.Tests.{eq-eqb, ne-eqb}
-use lib.ListN.{length, length-append}
+use lib.ListN.{length}
 use Rattle.bencode.specs.Value.{encodeString}
 use Rattle.ipc.specs.declared.keys.Class.{Class}
 use Rattle.ipc.specs.declared.write.Given.{Given}
@@ -15,7 +15,7 @@ use Rattle.ipc.specs.declared.write.Written.{Written}
 use Rattle.ipc.specs.Header.{largestPayload}
 use Rattle.ipc.specs.Keys.{keyText, classOf}
 use Rattle.ipc.specs.Write.{encodeGiven, encodeTag, payloadOf, fitted, messageFault, writeAnswer}
-use Rattle.ipc.proofs.OutcomeLaws.{frame-length, outcome-refused, outcome-same, outcome-count, SizeOf, length-refused, length-small, length-room}
+use Rattle.ipc.proofs.OutcomeLaws.{payload-length, frame-length, outcome-refused, outcome-same, outcome-count, SizeOf, length-refused, length-small, length-room}
 use Rattle.ipc.proofs.write.write.Statement.{statement}
 use Rattle.ipc.proofs.write.write.Tie as tie
 
@@ -30,13 +30,6 @@ module _ (key : ℕ) (given : Given) (s : List ℕ) (tag room code : ℕ) (e : c
   passed h = rw (← e, eq-eqb code 0 h) refl
 
 -- ---- the length of a payload
-parts-length : (a b c : List ℕ) → length (108 ∷ a ++ (b ++ (c ++ (101 ∷ [])))) ≡ length a + length b + length c + 2
-parts-length a b c = omega (arith, length-append a (b ++ (c ++ (101 ∷ []))), length-append b (c ++ (101 ∷ [])), length-append c (101 ∷ []))
-
-payload-length : (key : ℕ) (given : Given) (s : List ℕ) (tag : ℕ) → length (payloadOf key given s tag) ≡ length (encodeString (keyText key)) + length (encodeGiven (classOf key) given s) + length (encodeTag tag) + 2
-unfolding payloadOf flatten
-payload-length key given s tag = parts-length (encodeString (keyText key)) (encodeGiven (classOf key) given s) (encodeTag tag)
-
 -- the sum of the parts' lengths, the value's cut one over the largest payload
 module _ (key : ℕ) (given : Given) (s : List ℕ) (tag k v t : ℕ) (class : Class) (kind : class ≡ classOf key)
     (k-is : k ≡ length (encodeString (keyText key))) (v-is : v ≡ min (length (encodeGiven class given s)) (largestPayload + 1)) (t-is : t ≡ length (encodeTag tag)) where
