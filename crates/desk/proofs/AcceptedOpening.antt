@@ -1,0 +1,66 @@
+-- An accepted opening: its record, whose used places are the records lent.
+-- Assumes nothing.
+use Prim.Native.Nat.{ℕ, zero, suc, _≤_}
+use native.Mathlib.Omega.{arith}
+use mathlib.Core.Path.{_≡_, refl, ap, _∙_}
+use mathlib.Core.Bool.{true, cond, _&&_}
+use mathlib.Core.List.{List, [], _∷_}
+use lib.Dec.{leb, eqb}
+use lib.IntN.{ℤ}
+use lib.ListN.{length, take, drop}
+use borrow.Author.Tests.{leb-true}
+use Rattle.desk.specs.declared.watch.Watch.{Watch}
+use Rattle.desk.specs.Limit.{isLimit}
+use Rattle.desk.specs.Watch.{mostWatched, places, unused, fault}
+use Rattle.desk.specs.Record.{openedWith, sound}
+use Rattle.desk.specs.Opening.{openCode, refusedOpening, opening}
+use Rattle.desk.proofs.Cases.{by-cases, both}
+use Rattle.desk.proofs.Places.{take-places, unused-places}
+use Rattle.desk.proofs.WatchLists.{idsOk, fault-ids}
+use Rattle.desk.proofs.SoundLaws.{parts-sound}
+
+-- what an accepted opening has tested, and its record
+pub record Accepted (watch : List Watch) (down up : ℤ) : Type 0 where
+  pub few : length watch ≤ mostWatched
+  pub down-limit : isLimit down ≡ true
+  pub up-limit : isLimit up ≡ true
+  pub ids : idsOk watch ≡ true
+  pub desk : opening (length watch) watch down up .desk ≡ openedWith (length watch) watch down up
+
+pub open-accepted : (watch : List Watch) (down up : ℤ) → openCode (length watch) watch down up ≡ 0 → Accepted watch down up
+unfolding openCode opening
+open-accepted watch down up h =
+    by-cases (λ b. leb (length watch) mostWatched ≡ b → cond b (cond (isLimit down && isLimit up) (fault [] watch) 30) 35 ≡ 0 → Accepted watch down up) (leb (length watch) mostWatched)
+    (λ _ few.
+    by-cases (λ b. (isLimit down && isLimit up) ≡ b → cond b (fault [] watch) 30 ≡ 0 → Accepted watch down up) (isLimit down && isLimit up)
+    (λ _ limits e.
+    let l = both (isLimit down) _ limits in
+    record {
+      few = leb-true (length watch) mostWatched few;
+      down-limit = l .0;
+      up-limit = l .1;
+      ids = fault-ids watch e;
+      desk = ap (λ (n : ℕ). cond (eqb n 0) (record { code = 0; desk = openedWith (length watch) watch down up }) (refusedOpening n) .desk) h;
+    })
+    (λ _ _ e. let impossible : ⊥ = omega arith in absurd impossible)
+    refl)
+    (λ _ _ e. let impossible : ⊥ = omega arith in absurd impossible)
+    refl
+    h
+
+pub opened-sound : (watch : List Watch) (down up : ℤ) → openCode (length watch) watch down up ≡ 0 → sound (opening (length watch) watch down up .desk) ≡ true
+unfolding openedWith
+opened-sound watch down up h =
+    let a = open-accepted watch down up h in
+    let used = take-places mostWatched watch (a .few) in
+    ap sound (a .desk)
+    ∙ parts-sound (openedWith (length watch) watch down up)
+    (record {
+      is-open = refl;
+      few = a .few;
+      down = a .down-limit;
+      up = a .up-limit;
+      ids = ap idsOk used ∙ a .ids;
+      zeros = unused-places mostWatched watch (a .few);
+      override = refl;
+    })

@@ -1,0 +1,29 @@
+-- `desk::effect::deliver` meets its contract.
+-- Assumes nothing.
+use mathlib.Core.Path.{refl}
+use denote.Ref.{now}
+use Rattle.desk.specs.Effect.{refusal}
+use Rattle.desk.proofs.EffectLaws.{nothing-written, delivered-short, delivered-put}
+use borrow.Author.Needs.{needs}
+use Rattle.desk.proofs.effect.deliver.Statement.{statement}
+use Rattle.desk.proofs.effect.deliver.Tie as tie
+use Rattle.desk.proofs.effect.deliver.Reads as reads
+
+refuse-requires : tie.Need-refuse-requires
+refuse-requires c κs = search needs
+
+returns : tie.Need-returns
+returns c = nothing-written (refusal 34 (c .before .before .before .before .args .d)) (delivered-short (c .before .before .before .before .args .d) (c .before .before .before .before .args .next) (now (c .before .before .before .before .args .frames)) (now (c .before .before .before .before .args .out)) (c .before .if1 .taken)) refl (c .refuse .ensures)
+
+put-bytes-requires : tie.Need-put-bytes-requires
+put-bytes-requires c κs = search needs
+
+same-length : tie.Need-same-length
+same-length c = search needs
+
+returns-2 : tie.Need-returns-2
+returns-2 c = delivered-put (c .before .before .before .before .before .before .before .args .d) (c .before .before .before .before .before .before .before .args .next) (now (c .before .before .before .before .before .before .before .args .frames)) (now (c .before .before .before .before .before .before .before .args .out)) (c .before .before .before .before .if1 .left) (c .before .before .put-bytes .ensures)
+
+pub deliver-spec : {M : Type 1} → statement M
+deliver-spec =
+    tie.close (tie.spec refuse-requires returns put-bytes-requires same-length returns-2)

@@ -1,0 +1,13 @@
+-- `desk::effect::refuse` meets its contract.
+-- Assumes nothing.
+use mathlib.Core.Path.{refl}
+use Rattle.desk.specs.Effect.{returned}
+use Rattle.desk.proofs.effect.refuse.Statement.{statement}
+use Rattle.desk.proofs.effect.refuse.Tie as tie
+
+returns : tie.Need-returns
+unfolding returned
+returns c = refl
+
+pub refuse-spec : {M : Type 1} → statement M
+refuse-spec = tie.close (tie.spec returns)

@@ -1,0 +1,86 @@
+-- `desk::frames::put_raise` meets its contract.
+-- Assumes nothing.
+use Prim.Native.Nat.{ℕ}
+use mathlib.Core.Path.{_≡_, refl, ap}
+use mathlib.Core.Logic.{inl, inr}
+use mathlib.Core.List.{List, [], _∷_}
+use native.Mathlib.Omega.{arith}
+use denote.Ref.{now}
+use lib.ListN.{length}
+use Rattle.bencode.proofs.PutLaws.{Writing, start, next-put, finish}
+use Rattle.desk.specs.declared.lists.Pick.{Pick}
+use Rattle.desk.specs.Limit.{unlimited, isLimit}
+use Rattle.desk.specs.Watch.{pickIds}
+use Rattle.desk.specs.Record.{watched}
+use Rattle.desk.specs.Command.{startKey, stopKey, uplimitKey, limitFrame, listedFrame}
+use Rattle.desk.specs.Call.{raiseCommands}
+use Rattle.desk.proofs.FrameParts.{fourParts, four-parts}
+use Rattle.desk.proofs.SoundLaws.{sound-parts}
+use Rattle.desk.proofs.WatchLists.{has-id}
+use borrow.Author.Needs.{needs}
+use Rattle.desk.proofs.frames.put_raise.Statement.{statement}
+use Rattle.desk.proofs.frames.put_raise.Tie as tie
+use Rattle.desk.proofs.frames.put_raise.Reads as reads
+use Rattle.desk.proofs.frames.put_raise.Lts as lts
+use Rattle.desk.proofs.frames.put_limit.Reads as put-limit-reads
+use Rattle.desk.proofs.frames.put_listed.Reads as put-listed-reads
+use Rattle.desk.proofs.frames.put_one.Reads as put-one-reads
+
+-- the IDs to stop, and what is left to put
+abbrev others : tie.Start → List ℕ
+others c = pickIds (Pick.But (c .args .id)) (watched (c .args .d))
+
+abbrev parts : tie.Start → List (List ℕ)
+parts c = fourParts unlimited unlimited (others c) (c .args .id ∷ [])
+
+abbrev Left : tie.Start → List ℕ → ℕ → List (List ℕ) → Type 0
+Left c out o rest = Writing (now (c .args .out)) 0 (parts c) out o rest
+
+w0 : (c : tie.Start) → Left c (now (c .args .out)) 0 (parts c)
+unfolding raiseCommands
+w0 c = start (now (c .args .out)) 0 (parts c) (rw (four-parts unlimited unlimited (others c) (c .args .id ∷ [])) (omega (arith, c .pre .2)))
+
+w1 : (c : tie.After-put-limit) → Left (c .before .before .before) (c .put-limit .last .0) (c .put-limit .result) (limitFrame uplimitKey unlimited ∷ listedFrame stopKey (others (c .before .before .before)) ∷ listedFrame startKey (c .before .before .before .args .id ∷ []) ∷ [])
+w1 c = next-put (w0 (c .before .before .before)) (c .put-limit .ensures)
+
+w2 : (c : tie.After-put-limit2) → Left (c .before .before .before .before .before .before .before) (c .put-limit2 .last .0) (c .put-limit2 .result) (listedFrame stopKey (others (c .before .before .before .before .before .before .before)) ∷ listedFrame startKey (c .before .before .before .before .before .before .before .args .id ∷ []) ∷ [])
+w2 c = next-put (w1 (c .before .before .before .before)) (c .put-limit2 .ensures)
+
+w3 : (c : tie.After-put-listed) → Left (c .before .before .before .before .before .before .before .before .before .before .before) (c .put-listed .last .0) (c .put-listed .result) (listedFrame startKey (c .before .before .before .before .before .before .before .before .before .before .before .args .id ∷ []) ∷ [])
+w3 c = next-put (w2 (c .before .before .before .before)) (c .put-listed .ensures)
+
+w4 : (c : tie.After-put-one) → Left (c .before .before .before .before .before .before .before .before .before .before .before .before .before .before .before) (c .put-one .last .0) (c .put-one .result) []
+unfolding listedFrame
+w4 c = next-put (w3 (c .before .before .before .before)) (c .put-one .ensures)
+
+put-limit-requires : tie.Need-put-limit-requires
+unfolding isLimit
+put-limit-requires c κs = (inl refl, refl)
+
+put-limit-requires-2 : tie.Need-put-limit-requires-2
+unfolding isLimit
+put-limit-requires-2 c κs = (inr refl, refl)
+
+put-listed-requires : tie.Need-put-listed-requires
+put-listed-requires c κs = (inr refl, c .before .before .before .before .before .before .before .before .before .before .pre .0)
+
+put-one-requires : tie.Need-put-one-requires
+put-one-requires c κs = (inl refl, has-id (c .before .before .before .before .before .before .before .before .before .before .before .before .before .before .args .id) (watched (c .before .before .before .before .before .before .before .before .before .before .before .before .before .before .args .d)) (sound-parts (c .before .before .before .before .before .before .before .before .before .before .before .before .before .before .args .d) (c .before .before .before .before .before .before .before .before .before .before .before .before .before .before .pre .0) .ids) (c .before .before .before .before .before .before .before .before .before .before .before .before .before .before .pre .1))
+
+same-length : tie.Need-same-length
+same-length c = search needs
+
+returns : tie.Need-returns
+unfolding raiseCommands
+returns c = rw (four-parts unlimited unlimited (others (c .before .before .before .before .before .before .before .before .before .before .before .before .before .before .before .before .before)) (c .before .before .before .before .before .before .before .before .before .before .before .before .before .before .before .before .before .args .id ∷ [])) at (finish (w4 (c .before .before)))
+
+pub put-raise-spec : {M : Type 1} → statement M
+put-raise-spec =
+    tie.close
+    (tie.spec
+    put-limit-requires
+    put-limit-requires-2
+    put-listed-requires
+    put-one-requires
+    same-length
+    returns)

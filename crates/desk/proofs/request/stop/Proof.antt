@@ -1,0 +1,31 @@
+-- `desk::request::stop` meets its contract.
+-- Assumes nothing.
+use mathlib.Core.Path.{refl}
+use mathlib.Core.Logic.{inl, inr}
+use mathlib.Core.Bool.{true, false}
+use mathlib.Core.List.{[], _∷_}
+use denote.Ref.{now}
+use lib.ListN.{length}
+use Rattle.desk.specs.Record.{withRunning}
+use Rattle.desk.specs.Command.{Command, commandFrame}
+use Rattle.desk.specs.Call.{outcome}
+use Rattle.desk.proofs.EffectLaws.{returned-as, effect-running}
+use borrow.Author.Needs.{needs}
+use Rattle.desk.proofs.request.stop.Statement.{statement}
+use Rattle.desk.proofs.request.stop.Tie as tie
+use Rattle.desk.proofs.request.stop.Reads as reads
+use Rattle.desk.proofs.request.stop.Lts as lts
+use Rattle.desk.proofs.request.request_running.Reads as request-running-reads
+
+request-running-requires : tie.Need-request-running-requires
+request-running-requires c κs = inr refl
+
+same-length : tie.Need-same-length
+same-length c = search needs
+
+returns : tie.Need-returns
+unfolding outcome commandFrame
+returns c = returned-as (effect-running (length (now (c .before .before .before .before .before .args .out))) (c .before .before .before .before .before .args .d) (withRunning (c .before .before .before .before .before .args .id) false (c .before .before .before .before .before .args .d)) (c .before .before .before .before .before .args .id) (Command.stop (c .before .before .before .before .before .args .id ∷ []))) (c .before .before .request-running .ensures)
+
+pub stop-spec : {M : Type 1} → statement M
+stop-spec = tie.close (tie.spec request-running-requires same-length returns)

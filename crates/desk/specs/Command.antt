@@ -1,0 +1,87 @@
+-- The commands that the desk sends, and their frames as the frame writer writes them (document 01, 'The desk': frames carry no tag).
+-- Assumes nothing.
+use Prim.Native.Nat.{ℕ}
+use mathlib.Core.Path.{_≡_}
+use mathlib.Core.Logic.{_⊎_}
+use mathlib.Core.List.{List, [], _∷_, _++_}
+use lib.IntN.{ℤ, pos}
+use lib.ListN.{length}
+use Rattle.bencode.specs.Value.{integer, list, Values, no-value, value, encode}
+use Rattle.ipc.specs.declared.write.Given.{Given}
+use Rattle.ipc.specs.declared.write.Written.{Written}
+use Rattle.ipc.specs.Write.{payloadOf, frameOf, writeAnswer}
+
+-- downlimit, uplimit, start and stop
+pub data Command : Type 0 where
+  setDown : ℤ → Command
+  setUp : ℤ → Command
+  start : List ℕ → Command
+  stop : List ℕ → Command
+
+-- the numbers of their keys
+abbrev pub downlimitKey : ℕ
+downlimitKey = 5
+
+abbrev pub startKey : ℕ
+startKey = 16
+
+abbrev pub stopKey : ℕ
+stopKey = 18
+
+abbrev pub uplimitKey : ℕ
+uplimitKey = 20
+
+-- a list of torrent IDs, and how it is written
+unfoldable pub values : List ℕ → Values
+values [] = no-value
+values (x ∷ xs) = value (integer (pos x)) (values xs)
+
+unfoldable pub idList : List ℕ → List ℕ
+idList ids = encode (list (values ids))
+
+-- the frame of a message without a tag, of a limit, and of a list of IDs
+unfoldable pub messageFrame : ℕ → Given → List ℕ → List ℕ
+messageFrame key given s = frameOf (payloadOf key given s 0)
+
+abbrev pub limitFrame : ℕ → ℤ → List ℕ
+limitFrame key n = messageFrame key (Given.Integer n) []
+
+abbrev pub idsFrame : ℕ → List ℕ → List ℕ
+idsFrame key ids = messageFrame key Given.Bytes (idList ids)
+
+-- the frame of a command
+unfoldable pub commandFrame : Command → List ℕ
+commandFrame (setDown n) = limitFrame downlimitKey n
+commandFrame (setUp n) = limitFrame uplimitKey n
+commandFrame (start ids) = idsFrame startKey ids
+commandFrame (stop ids) = idsFrame stopKey ids
+
+-- a call's frames, joined
+unfoldable pub framesOf : List Command → List ℕ
+framesOf [] = []
+framesOf (c ∷ cs) = commandFrame c ++ framesOf cs
+
+-- a start or stop, written only where it lists an ID
+unfoldable pub listing : (List ℕ → Command) → List ℕ → List Command
+listing c [] = []
+listing c (x ∷ xs) = c (x ∷ xs) ∷ []
+
+-- ---- for the functions that put frames
+-- the frame of a list of IDs; none where the list is empty
+unfoldable pub listedFrame : ℕ → List ℕ → List ℕ
+listedFrame key [] = []
+listedFrame key (x ∷ xs) = idsFrame key (x ∷ xs)
+
+-- the most bytes that a call writes
+abbrev pub longest : ℕ
+longest = 479
+
+-- the frame writer writes a message into so many bytes
+abbrev pub Writable : ℕ → Given → List ℕ → Type 0
+Writable key given s = writeAnswer key given s 0 longest ≡ Written.Count (length (messageFrame key given s))
+
+abbrev pub LimitKey : ℕ → Type 0
+LimitKey key = (key ≡ downlimitKey) ⊎ (key ≡ uplimitKey)
+
+abbrev pub ListKey : ℕ → Type 0
+ListKey key = (key ≡ startKey) ⊎ (key ≡ stopKey)

@@ -1,0 +1,9 @@
+pub mod Limit
+pub mod Watch
+pub mod Record
+pub mod Opening
+pub mod Command
+pub mod Call
+pub mod Effect
+pub mod Machine
+pub mod Demands

@@ -1,0 +1,26 @@
+// What a call answers.
+use super::record::Desk;
+
+// A call's code, how many bytes it wrote, and the record after it.
+pub struct Done {
+    pub code: u8,
+    pub count: usize,
+    pub desk: Desk,
+}
+
+impl Done {
+    // The request is accepted, and nothing is written while an override stands. Document 01 calls it held.
+    pub const DEFERRED: u8 = 1;
+    // A limit out of range.
+    pub const LIMIT: u8 = 30;
+    // An ID that is not watched.
+    pub const UNWATCHED: u8 = 31;
+    // A raise while an override stands.
+    pub const STANDS: u8 = 32;
+    // A clear while none stands.
+    pub const NONE_STANDS: u8 = 33;
+    // A buffer shorter than the frames.
+    pub const ROOM: u8 = 34;
+    // A record that no desk hands back.
+    pub const RECORD: u8 = 38;
+}

@@ -1,0 +1,15 @@
+// The override desk of document 01: it keeps what is desired of the daemon's limits and watched transfers, gives one transfer
+// the whole link while an override stands, and restores what is desired when it is cleared.
+mod change;
+pub mod clear;
+pub mod done;
+mod effect;
+mod frames;
+pub mod limit;
+mod lists;
+pub mod opening;
+pub mod raise;
+pub mod record;
+pub mod request;
+mod sound;
+pub mod watch;

@@ -1,0 +1,143 @@
+// The watch list at its places: which IDs it has, its first fault, and which of them a start or stop lists.
+ghost use mathlib.Core.Path.{_≡_};
+ghost use mathlib.Core.List.{[]};
+ghost use Prim.Native.Nat.{_≤_, _<_};
+ghost use lib.ListN.{take, drop, replicate, set};
+ghost use Rattle.desk.specs.Watch.{isId, empty, has, place, fault, unused, padded, picked};
+use super::watch::PLACES;
+use super::watch::Watch;
+use ipc::ids::OptionalId;
+use ipc::ids::TorrentId;
+
+// The codes of an ID out of range and of an ID again.
+const ID_RANGE: u8 = 36;
+
+const ID_AGAIN: u8 = 37;
+
+// Which of the watched transfers a start or stop lists: all but one, those desired running, or those desired stopped.
+pub enum Pick {
+    But(u32),
+    Running,
+    Stopped,
+}
+
+// Is a number a torrent ID.
+pub fn is_id(id: u32) -> bool
+    ensures { λ r. ⌜ r ≡ isId id ⌝ }
+{
+    match TorrentId::new(id as i64) {
+        OptionalId::Id(_) => true,
+        OptionalId::None => false,
+    }
+}
+
+// Is a record listed.
+pub fn picks(pick: Pick, w: Watch) -> bool
+    ensures { λ r. ⌜ r ≡ picked pick w ⌝ }
+{
+    match pick {
+        Pick::But(x) => w.id != x,
+        Pick::Running => w.running,
+        Pick::Stopped => !w.running,
+    }
+}
+
+// Is an ID among the first n places.
+pub fn has_id(places: [Watch; PLACES], n: usize, id: u32) -> bool
+    requires { ⌜ n ≤ 32 ⌝ }
+    ensures { λ r. ⌜ r ≡ has id (take n places) ⌝ }
+{
+    let mut i: usize = 0;
+    while i < n {
+        if places[i].id == id {
+            return true;
+        }
+        i += 1;
+    }
+    false
+}
+
+// The place of an ID among the first n; n where it is not there.
+pub fn place_of(places: [Watch; PLACES], n: usize, id: u32) -> usize
+    requires { ⌜ n ≤ 32 ⌝ }
+    ensures { λ r. ⌜ r ≡ place id (take n places) ⌝ }
+{
+    let mut i: usize = 0;
+    while i < n {
+        if places[i].id == id {
+            return i;
+        }
+        i += 1;
+    }
+    i
+}
+
+// The first fault of the first n records: an ID out of range, an ID again, or 0 for none.
+pub fn fault_of(places: [Watch; PLACES], n: usize) -> u8
+    requires { ⌜ n ≤ 32 ⌝ }
+    ensures { λ r. ⌜ r ≡ fault [] (take n places) ⌝ }
+{
+    let mut i: usize = 0;
+    while i < n {
+        let id = places[i].id;
+        if !is_id(id) {
+            return ID_RANGE;
+        }
+        if has_id(places, i, id) {
+            return ID_AGAIN;
+        }
+        i += 1;
+    }
+    0
+}
+
+// Is every place from n on empty.
+pub fn unused_from(places: [Watch; PLACES], n: usize) -> bool
+    ensures { λ r. ⌜ r ≡ unused (drop n places) ⌝ }
+{
+    let mut i = n;
+    while i < PLACES {
+        if places[i].id != 0 {
+            return false;
+        }
+        if places[i].running {
+            return false;
+        }
+        i += 1;
+    }
+    true
+}
+
+// Empty places.
+pub fn no_places() -> [Watch; PLACES]
+    ensures { λ r. ⌜ r ≡ replicate 32 empty ⌝ }
+{
+    [Watch {
+        id: 0,
+        running: false,
+    }; PLACES]
+}
+
+// The places with a record at one of them.
+pub fn with_watch(places: [Watch; PLACES], i: usize, w: Watch) -> [Watch; PLACES]
+    requires { ⌜ i < 32 ⌝ }
+    ensures { λ r. ⌜ r ≡ set places i w ⌝ }
+{
+    let mut next = places;
+    next[i] = w;
+    next
+}
+
+// The first n records, and empty places after them.
+pub fn cleared_from(places: [Watch; PLACES], n: usize) -> [Watch; PLACES]
+    requires { ⌜ n ≤ 32 ⌝ }
+    ensures { λ r. ⌜ r ≡ padded (take n places) ⌝ }
+{
+    let mut next = no_places();
+    let mut i: usize = 0;
+    while i < n {
+        next[i] = places[i];
+        i += 1;
+    }
+    next
+}

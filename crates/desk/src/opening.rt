@@ -1,0 +1,113 @@
+// Opening the desk.
+ghost use mathlib.Core.Path.{_≡_};
+ghost use Prim.Native.Nat.{_≤_, min};
+ghost use lib.ListN.{length, take};
+ghost use Rattle.desk.specs.Watch.{padded};
+ghost use Rattle.desk.specs.Opening.{refusedOpening, opening};
+use super::change::closed_desk;
+use super::limit::is_limit;
+use super::lists::cleared_from;
+use super::lists::fault_of;
+use super::lists::no_places;
+use super::lists::with_watch;
+use super::record::Desk;
+use super::watch::PLACES;
+use super::watch::Watch;
+
+// An opening's code and the desk, which is closed where the opening is refused.
+pub struct Opened {
+    pub code: u8,
+    pub desk: Desk,
+}
+
+impl Opened {
+    // A limit out of range.
+    pub const LIMIT: u8 = 30;
+    // More records than places.
+    pub const LIST: u8 = 35;
+}
+
+// A refused opening.
+fn refuse_opening(code: u8) -> Opened
+    ensures { λ r. ⌜ r ≡ refusedOpening code ⌝ }
+{
+    Opened {
+        code,
+        desk: closed_desk(),
+    }
+}
+
+// Opens with the first `count` of the records, where `count` is how many were lent.
+fn open_core(watch: [Watch; PLACES], count: usize, down: i32, up: i32) -> Opened
+    ensures { λ r. ⌜ r ≡ opening count (take count watch) down up ⌝ }
+{
+    if PLACES < count {
+        return refuse_opening(Opened::LIST);
+    }
+    if !is_limit(down) {
+        return refuse_opening(Opened::LIMIT);
+    }
+    if !is_limit(up) {
+        return refuse_opening(Opened::LIMIT);
+    }
+    let code = fault_of(watch, count);
+    if code != 0 {
+        return refuse_opening(code);
+    }
+    let places = cleared_from(watch, count);
+    let desk = Desk {
+        opened: true,
+        count,
+        down,
+        up,
+        override_id: 0,
+        watch: places,
+    };
+    Opened { code: 0, desk }
+}
+
+// How many of n records there are places for.
+fn places_for(n: usize) -> usize
+    ensures { λ r. ⌜ r ≡ min n 32 ⌝ }
+{
+    if n < PLACES { n } else { PLACES }
+}
+
+// The first records of a lent list, and empty places after them.
+fn copied(list: &[Watch]) -> [Watch; PLACES]
+    ensures { λ r. ⌜ r ≡ padded (now (list .entry)) ⌝ }
+{
+    let n = places_for(list.len());
+    let mut places = no_places();
+    let mut i: usize = 0;
+    while i < n {
+        places = with_watch(places, i, list[i]);
+        i += 1;
+    }
+    places
+}
+
+// Opens the desk with the watch list that is lent.
+pub fn open(list: &[Watch], down: i32, up: i32) -> Opened
+    ensures { λ r. ⌜ r ≡ opening (length (now (list .entry))) (now (list .entry)) down up ⌝ }
+{
+    open_core(copied(list), list.len(), down, up)
+}
+
+// Opens with the first records of an array, lent to `open`.
+fn open_lent(watch: [Watch; PLACES], count: usize, down: i32, up: i32) -> Opened
+    requires { ⌜ count ≤ 32 ⌝ }
+    ensures { λ r. ⌜ r ≡ opening count (take count watch) down up ⌝ }
+{
+    open(&watch[..count], down, up)
+}
+
+// The same for any count: neither it nor its callers hold a slice of structs, which a proof has to walk by hand.
+pub fn open_records(watch: [Watch; PLACES], count: usize, down: i32, up: i32) -> Opened
+    ensures { λ r. ⌜ r ≡ opening count (take count watch) down up ⌝ }
+{
+    if PLACES < count {
+        return refuse_opening(Opened::LIST);
+    }
+    open_lent(watch, count, down, up)
+}
