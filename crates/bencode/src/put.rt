@@ -79,6 +79,16 @@ pub fn put_bytes(out: &mut [u8], at: usize, src: &[u8]) -> usize
     store_bytes(out, at, src)
 }
 
+// Puts a number in decimal at an offset, and answers the offset after it.
+pub fn put_decimal(out: &mut [u8], at: usize, n: u64) -> usize
+    ensures { λ r. ⌜ Put (now (out .entry)) at (decimal n) (now (out .exit)) r ⌝ }
+{
+    if lacks_room(out.len(), at, decimal_length(n)) {
+        return at;
+    }
+    store_decimal(out, at, n)
+}
+
 // Puts a bencoded integer at an offset, and answers the offset after it.
 pub fn put_integer(out: &mut [u8], at: usize, v: i64) -> usize
     ensures { λ r. ⌜ Put (now (out .entry)) at (encode (integer v)) (now (out .exit)) r ⌝ }

@@ -1,0 +1,181 @@
+// Runs a strip: opens the desk, makes the calls one by one and prints a line for each.
+use desk::opening::open_records;
+use desk::record::Desk;
+use desk::watch::PLACES;
+use libc::STDOUT_FILENO;
+use strip::gather::Gathered;
+use strip::gather::gather;
+use strip::gather::nothing_gathered;
+use strip::line::Line;
+use strip::line::call_line;
+use strip::line::fault_line;
+use strip::line::open_line;
+use strip::perform::perform;
+use strip::record::Call;
+use strip::record::Record;
+use strip::record::call_kind;
+use strip::record::record_at;
+
+// Where a run is: what it read before the first call, and from there on the desk.
+pub struct Run {
+    pub at: usize,
+    pub called: bool,
+    pub over: bool,
+    pub down: i32,
+    pub up: i32,
+    pub gathered: Gathered,
+    pub desk: Desk,
+}
+
+// Room for the longest call.
+const ROOM: usize = 479;
+
+fn print(text: &[u8]) {
+    io::write_all(STDOUT_FILENO, text);
+}
+
+fn print_front(text: &[u8], n: usize) {
+    if n <= text.len() {
+        print(&text[..n]);
+    }
+}
+
+fn print_line(line: Line) {
+    let bytes = line.bytes;
+    print_front(&bytes, line.length);
+}
+
+// Nothing is read yet, and the desk is closed.
+fn begun() -> Run {
+    let gathered = nothing_gathered();
+    let watch = gathered.watch;
+    let refused = open_records(watch, PLACES + 1, 0, 0);
+    let desk = refused.desk;
+    Run {
+        at: 0,
+        called: false,
+        over: false,
+        down: 0,
+        up: 0,
+        gathered,
+        desk,
+    }
+}
+
+// The run with another desk.
+fn with_desk(run: Run, desk: Desk) -> Run {
+    let gathered = run.gathered;
+    Run {
+        at: run.at,
+        called: run.called,
+        over: run.over,
+        down: run.down,
+        up: run.up,
+        gathered,
+        desk,
+    }
+}
+
+// The run with one watch record more.
+fn with_watch(run: Run, id: u32, running: bool) -> Run {
+    let gathered = gather(run.gathered, id, running);
+    let desk = run.desk;
+    Run {
+        at: run.at,
+        called: run.called,
+        over: run.over,
+        down: run.down,
+        up: run.up,
+        gathered,
+        desk,
+    }
+}
+
+fn with_limits(run: Run, down: i32, up: i32) -> Run {
+    let mut next = run;
+    next.down = down;
+    next.up = up;
+    next
+}
+
+fn ended(run: Run) -> Run {
+    let mut next = run;
+    next.over = true;
+    next
+}
+
+// Opens the desk, once; a refusal ends the run.
+fn open_once(run: Run) -> Run {
+    if run.called {
+        return run;
+    }
+    let gathered = run.gathered;
+    let watch = gathered.watch;
+    let opened = open_records(watch, gathered.count, run.down, run.up);
+    let code = opened.code;
+    print_line(open_line(code));
+    let desk = opened.desk;
+    let mut next = with_desk(run, desk);
+    next.called = true;
+    next.over = code != 0;
+    next
+}
+
+// Makes a call: its line, and the bytes it wrote on the next.
+fn make_call(run: Run, call: Call, out: &mut [u8]) -> Run {
+    let desk = run.desk;
+    let done = perform(desk, call, out);
+    let count = done.count;
+    print_line(call_line(call_kind(call), done.code, count));
+    if 0 < count {
+        print_front(out, count);
+        print(b"\n");
+    }
+    let desk = done.desk;
+    with_desk(run, desk)
+}
+
+// A call, on the desk once it is open.
+fn take_call(run: Run, call: Call, out: &mut [u8]) -> Run {
+    let opened = open_once(run);
+    if opened.over {
+        return opened;
+    }
+    make_call(opened, call, out)
+}
+
+// A fault is the last that is printed.
+fn take_fault(run: Run, offset: usize) -> Run {
+    print_line(fault_line(offset));
+    ended(run)
+}
+
+// Goes on after a record.
+fn take_record(run: Run, found: Record, offset: usize, out: &mut [u8]) -> Run {
+    let mut next = run;
+    next.at = offset;
+    match found {
+        Record::Limits { down, up } => with_limits(next, down, up),
+        Record::Watch { id, running } => with_watch(next, id, running),
+        Record::Call(call) => take_call(next, call, out),
+        Record::Fault => take_fault(next, offset),
+        Record::End => ended(open_once(next)),
+    }
+}
+
+// Runs a strip. The number of turns is bounded so that it is seen to end; a record has a byte at least, so no strip has so many.
+pub fn run_strip(s: &[u8]) {
+    let mut space = [0u8; ROOM];
+    let out: &mut [u8] = &mut space;
+    let mut run = begun();
+    let mut left: u32 = 20000;
+    while 0 < left {
+        left -= 1;
+        if run.over {
+            return;
+        }
+        let decoded = record_at(s, run.at, run.called);
+        let found = decoded.found;
+        run = take_record(run, found, decoded.offset, out);
+    }
+}
