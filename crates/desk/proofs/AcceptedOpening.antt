@@ -1,17 +1,17 @@
 -- An accepted opening: its record, whose used places are the records lent.
 -- Assumes nothing.
-use Prim.Native.Nat.{ℕ, zero, suc, _≤_}
+use Prim.Native.Nat.{ℕ, _≤_}
 use native.Mathlib.Omega.{arith}
-use mathlib.Core.Path.{_≡_, refl, ap, _∙_}
+use mathlib.Core.Path.{_≡_, refl, sym, ap, _∙_}
 use mathlib.Core.Bool.{true, cond, _&&_}
-use mathlib.Core.List.{List, [], _∷_}
+use mathlib.Core.List.{List, []}
 use lib.Dec.{leb, eqb}
 use lib.IntN.{ℤ}
-use lib.ListN.{length, take, drop}
-use borrow.Author.Tests.{leb-true}
+use lib.ListN.{length}
+use borrow.Author.Tests.{eqb-true, leb-true}
 use Rattle.desk.specs.declared.watch.Watch.{Watch}
 use Rattle.desk.specs.Limit.{isLimit}
-use Rattle.desk.specs.Watch.{mostWatched, places, unused, fault}
+use Rattle.desk.specs.Watch.{mostWatched, fault}
 use Rattle.desk.specs.Record.{openedWith, sound}
 use Rattle.desk.specs.Opening.{openCode, refusedOpening, opening}
 use Rattle.desk.proofs.Cases.{by-cases, both}
@@ -27,9 +27,21 @@ pub record Accepted (watch : List Watch) (down up : ℤ) : Type 0 where
   pub ids : idsOk watch ≡ true
   pub desk : opening (length watch) watch down up .desk ≡ openedWith (length watch) watch down up
 
-pub open-accepted : (watch : List Watch) (down up : ℤ) → openCode (length watch) watch down up ≡ 0 → Accepted watch down up
+-- an opening answers the code of its tests
+opening-code : (n : ℕ) (watch : List Watch) (down up : ℤ) → opening n watch down up .code ≡ openCode n watch down up
+unfolding opening refusedOpening
+opening-code n watch down up =
+    by-cases
+    (λ b. eqb (openCode n watch down up) 0 ≡ b
+    → cond b (record { code = 0; desk = openedWith n watch down up }) (refusedOpening (openCode n watch down up)) .code ≡ openCode n watch down up)
+    (eqb (openCode n watch down up) 0)
+    (λ _ zero-code. sym (eqb-true (openCode n watch down up) 0 zero-code))
+    (λ _ _. refl)
+    refl
+
+tests-passed : (watch : List Watch) (down up : ℤ) → openCode (length watch) watch down up ≡ 0 → Accepted watch down up
 unfolding openCode opening
-open-accepted watch down up h =
+tests-passed watch down up h =
     by-cases (λ b. leb (length watch) mostWatched ≡ b → cond b (cond (isLimit down && isLimit up) (fault [] watch) 30) 35 ≡ 0 → Accepted watch down up) (leb (length watch) mostWatched)
     (λ _ few.
     by-cases (λ b. (isLimit down && isLimit up) ≡ b → cond b (fault [] watch) 30 ≡ 0 → Accepted watch down up) (isLimit down && isLimit up)
@@ -48,7 +60,10 @@ open-accepted watch down up h =
     refl
     h
 
-pub opened-sound : (watch : List Watch) (down up : ℤ) → openCode (length watch) watch down up ≡ 0 → sound (opening (length watch) watch down up .desk) ≡ true
+pub open-accepted : (watch : List Watch) (down up : ℤ) → opening (length watch) watch down up .code ≡ 0 → Accepted watch down up
+open-accepted watch down up h = tests-passed watch down up (sym (opening-code (length watch) watch down up) ∙ h)
+
+pub opened-sound : (watch : List Watch) (down up : ℤ) → opening (length watch) watch down up .code ≡ 0 → sound (opening (length watch) watch down up .desk) ≡ true
 unfolding openedWith
 opened-sound watch down up h =
     let a = open-accepted watch down up h in

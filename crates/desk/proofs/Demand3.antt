@@ -11,7 +11,7 @@ use Rattle.desk.specs.declared.watch.Watch.{Watch}
 use Rattle.desk.specs.declared.record.Desk.{Desk}
 use Rattle.desk.specs.Watch.{mostWatched, has, marked, places}
 use Rattle.desk.specs.Record.{openedWith}
-use Rattle.desk.specs.Opening.{openCode}
+use Rattle.desk.specs.Opening.{opening}
 use Rattle.desk.specs.Command.{framesOf}
 use Rattle.desk.specs.Call.{outcome}
 use Rattle.desk.specs.Effect.{effect, returned, bufferAfter}
@@ -54,7 +54,7 @@ module _ (watch : List Watch) (others : ℕ → Bool) where
         stands = refl;
       }
 
-  opening-invariant : (down up : ℤ) → openCode (length watch) watch down up ≡ 0 → Invariant (afterOpening watch down up others)
+  opening-invariant : (down up : ℤ) → opening (length watch) watch down up .code ≡ 0 → Invariant (afterOpening watch down up others)
   unfolding afterOpening
   opening-invariant down up h =
       let a = open-accepted watch down up h in

@@ -1,26 +1,24 @@
 -- How long the desk's frames are.
 -- Assumes nothing.
-use Prim.Native.Nat.{ℕ, suc, _+_, _*_, _≤_, _<_, _^_}
-use mathlib.Core.Path.{_≡_, refl, sym, ap, _∙_}
+use Prim.Native.Nat.{ℕ, suc, _+_, _*_, _≤_}
+use mathlib.Core.Path.{_≡_, refl}
 use mathlib.Core.Logic.{⊎-elim}
-use mathlib.Core.Bool.{Bool, true, false, _&&_}
-use mathlib.Core.List.{List, [], _∷_, _++_}
+use mathlib.Core.Bool.{Bool, true, _&&_}
+use mathlib.Core.List.{List, [], _∷_}
 use native.Mathlib.Omega.{arith}
 use borrow.Author.Tests.{leb-true}
 use lib.Dec.{leb}
-use lib.IntN.{ℤ, pos, negsuc, natAbs}
+use lib.IntN.{ℤ, pos, negsuc}
 use lib.ListN.{length, length-append}
 use Rattle.bencode.specs.Numeral.{decimal, decimalBefore}
-use Rattle.bencode.specs.Value.{integer, list, Values, encodeString, encode, encodeAll, sign}
+use Rattle.bencode.specs.Value.{integer, encodeString, encode, encodeAll}
 use Rattle.bencode.proofs.DigitLaws.{length-pos, length-below}
-use Rattle.bencode.proofs.Order.{clash}
 use Rattle.bencode.proofs.PutParts.{integer-size}
 use Rattle.ipc.specs.declared.write.Given.{Given}
 use Rattle.ipc.specs.Ascii.{ascii}
-use Rattle.ipc.specs.Header.{headerLength}
 use Rattle.ipc.specs.Ids.{largestId}
 use Rattle.ipc.specs.Keys.{keyText, classOf, listed}
-use Rattle.ipc.specs.Write.{encodeGiven, encodeTag, payloadOf, frameOf}
+use Rattle.ipc.specs.Write.{encodeGiven, encodeTag, payloadOf}
 use Rattle.ipc.proofs.Inverts.{and-left, and-right}
 use Rattle.ipc.proofs.OutcomeLaws.{payload-length, frame-length}
 use Rattle.desk.specs.Limit.{isLimit}

@@ -2,7 +2,7 @@
 -- Assumes nothing.
 use Prim.Native.Nat.{ℕ, suc, _+_, _*_, _≤_, _<_}
 use mathlib.Core.Path.{_≡_, refl, sym, ap, ap₂, _∙_}
-use mathlib.Core.Bool.{true, false, cond, not, _||_, false≢true}
+use mathlib.Core.Bool.{true, cond, not, _||_, false≢true}
 use mathlib.Core.List.{List, [], _∷_, _++_, flatten, append-nil, append-assoc}
 use native.Mathlib.Omega.{arith}
 use lib.Dec.{eqb}
@@ -13,7 +13,7 @@ use Rattle.bencode.specs.Value.{integer, encode}
 use Rattle.desk.specs.declared.record.Desk.{Desk}
 use Rattle.desk.specs.declared.lists.Pick.{Pick}
 use Rattle.desk.specs.declared.watch.Watch.{Watch}
-use Rattle.desk.specs.Limit.{unlimited, isLimit}
+use Rattle.desk.specs.Limit.{unlimited}
 use Rattle.desk.specs.Watch.{has, picked, filtered, pickIds}
 use Rattle.desk.specs.Record.{watched, sound}
 use Rattle.desk.specs.Command.{Command, downlimitKey, startKey, stopKey, uplimitKey, values, idList, limitFrame, idsFrame, commandFrame, framesOf, listing, listedFrame, longest}

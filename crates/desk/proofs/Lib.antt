@@ -26,3 +26,5 @@ pub mod Longest
 pub mod Demand3
 pub mod Stays
 pub mod Refusals
+pub mod ListFixed
+pub mod DaemonTried

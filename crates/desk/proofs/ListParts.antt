@@ -1,12 +1,12 @@
 -- A list of torrent IDs, in the parts that it is put in.
 -- Assumes nothing.
 use Prim.Native.Nat.{ℕ, _+_}
-use mathlib.Core.Path.{_≡_, refl, sym, ap, _∙_}
-use mathlib.Core.Bool.{true, false, cond}
+use mathlib.Core.Path.{_≡_, refl, sym, ap}
+use mathlib.Core.Bool.{true, false}
 use mathlib.Core.List.{List, [], _∷_, _++_, flatten, append-nil}
 use lib.ListN.{drop}
 use Rattle.bencode.specs.Put.{Put}
-use Rattle.bencode.specs.Value.{integer, list, Values, encode, encodeAll}
+use Rattle.bencode.specs.Value.{integer, encode, encodeAll}
 use Rattle.bencode.proofs.PutLaws.{Writing, next-put}
 use lib.IntN.{pos}
 use Rattle.desk.specs.declared.lists.Pick.{Pick}

@@ -1,13 +1,13 @@
 -- No call writes more than 479 bytes, and one writes as many.
 -- Assumes nothing.
 use Prim.Native.Nat.{ℕ, zero, suc, _+_, _≤_}
-use mathlib.Core.Path.{_≡_, refl}
-use mathlib.Core.Bool.{Bool, true, false, cond}
+use mathlib.Core.Path.{_≡_, refl, ap, _∙_}
+use mathlib.Core.Bool.{true, false}
 use mathlib.Core.List.{List, [], _∷_, flatten}
 use native.Mathlib.Omega.{arith}
 use borrow.Author.Tests.{le-leb}
 use lib.Dec.{eqb, leb}
-use lib.IntN.{ℤ, pos}
+use lib.IntN.{ℤ}
 use lib.ListN.{length, length-append}
 use Rattle.bencode.specs.Numeral.{decimal, decimalBefore}
 use Rattle.bencode.specs.Value.{encode}
@@ -17,9 +17,10 @@ use Rattle.ipc.specs.Keys.{keyText, classOf, listed}
 use Rattle.ipc.specs.Write.{encodeGiven, encodeTag, payloadOf, frameOf}
 use Rattle.desk.specs.declared.record.Desk.{Desk}
 use Rattle.desk.specs.declared.watch.Watch.{Watch}
-use Rattle.desk.specs.Limit.{isLimit}
-use Rattle.desk.specs.Watch.{isId, has, fault, unused, filtered}
-use Rattle.desk.specs.Record.{watched, limitsSound, listSound, sound, withOverride}
+use Rattle.desk.specs.Limit.{isLimit, largestLimit}
+use Rattle.desk.specs.Watch.{isId, has, fault, places, unused, filtered}
+use Rattle.desk.specs.Record.{watched, limitsSound, listSound, sound, openedWith, withOverride}
+use Rattle.desk.specs.Opening.{openCode, opening}
 use Rattle.desk.specs.Command.{Command, downlimitKey, startKey, stopKey, uplimitKey, values, idList, messageFrame, commandFrame, framesOf, listing, longest}
 use Rattle.desk.specs.Call.{Call, Outcome, refused, sent, asked, limitCall, runningCall, raiseCall, clearCall, raiseCommands, clearCommands, outcome}
 use Rattle.desk.specs.Effect.{effect}
@@ -28,6 +29,7 @@ use Rattle.desk.proofs.Cases.{cond-cases}
 use Rattle.desk.proofs.FrameLengths.{limit-room, one-room}
 use Rattle.desk.proofs.FrameParts.{raise-length, clear-length}
 use Rattle.desk.proofs.SoundLaws.{sound-parts}
+use Rattle.desk.proofs.AcceptedOpening.{opened-sound}
 use Rattle.desk.proofs.WatchLists.{has-id}
 use mathlib.Core.Logic.{inl, inr}
 
@@ -88,29 +90,71 @@ no-longer (Call.stop x) room d = running-short room d x _ (Command.stop (x ∷ [
 no-longer (Call.raise x) room d = raise-short room d x
 no-longer Call.clear room d = clear-short room d
 
--- ---- a desk whose clear is the longest: 32 of the largest IDs, of both marks, and both limits the largest
+-- ---- a run whose clear is the longest: an opening with 32 of the largest IDs, of both marks, and both limits the largest, then a raise
 unfoldable countdown : ℕ → ℕ → List Watch
 countdown zero x = []
 countdown (suc n) x = record { id = x + n; running = eqb n 0 } ∷ countdown n x
 
-largest : Desk
-largest = record { opened = true; count = 32; down = pos 1000000; up = pos 1000000; «override_id» = 2147483647; watch = countdown 32 2147483616 }
+unfoldable records : List Watch
+records = countdown 32 2147483616
 
-largest-sound : sound largest ≡ true
-unfolding largest countdown sound limitsSound listSound isLimit fault isId has unused
-largest-sound = refl
+-- the record after the opening
+abbrev first : Desk
+first = opening 32 records largestLimit largestLimit .desk
 
-largest-clear : length (framesOf (clearCommands largest)) ≡ 479
-unfolding largest countdown clearCommands filtered listing framesOf commandFrame messageFrame frameOf payloadOf flatten hexHeader hexIn keyText classOf listed ascii encodeGiven encodeTag idList values encode decimal decimalBefore
-largest-clear = refl
+-- the ID raised, and the record after the raise
+abbrev chosen : ℕ
+chosen = 2147483647
 
-clear-largest : (room : ℕ) → longest ≤ room → length (framesOf (clearCall room largest .commands)) ≡ longest
+abbrev raised : Desk
+raised = withOverride chosen first
+
+records-opened : opening 32 records largestLimit largestLimit .code ≡ 0
+unfolding records countdown opening openCode isLimit fault isId has
+records-opened = refl
+
+first-sound : sound first ≡ true
+unfolding records countdown
+first-sound = opened-sound records largestLimit largestLimit records-opened
+
+chosen-watched : (has chosen (watched first) ≡ true) × (first .«override_id» ≡ 0)
+unfolding records countdown opening openCode openedWith places isLimit fault isId has
+chosen-watched = (refl, refl)
+
+raised-sound : sound raised ≡ true
+unfolding records countdown opening openCode openedWith withOverride places sound limitsSound listSound isLimit fault isId has unused
+raised-sound = refl
+
+raised-clear : length (framesOf (clearCommands raised)) ≡ longest
+unfolding records countdown opening openCode openedWith withOverride places isLimit fault isId has clearCommands filtered listing framesOf commandFrame messageFrame frameOf payloadOf flatten hexHeader hexIn keyText classOf listed ascii encodeGiven encodeTag idList values encode decimal decimalBefore
+raised-clear = refl
+
+raise-accepted : (room : ℕ) → longest ≤ room → raiseCall room chosen first ≡ record { code = 0; desk = raised; commands = raiseCommands chosen first }
+unfolding raiseCall sent
+raise-accepted room h =
+    let none-stands : eqb (first .«override_id») 0 ≡ true = ap (λ n. eqb n 0) (chosen-watched .1) in
+    let fits : leb (length (framesOf (raiseCommands chosen first))) room ≡ true =
+    le-leb _ room (omega (arith, h, raise-length first chosen first-sound (chosen-watched .0))) in
+    rw (first-sound, none-stands, chosen-watched .0, fits) refl
+
+clear-longest : (room : ℕ) → longest ≤ room → length (framesOf (clearCall room raised .commands)) ≡ longest
 unfolding clearCall sent
-clear-largest room h =
-    let fits : leb (length (framesOf (clearCommands largest))) room ≡ true = rw largest-clear (le-leb longest room h) in
-    let stands : eqb (largest .«override_id») 0 ≡ false = unfold largest in refl in
-    rw (largest-sound, stands, fits) largest-clear
+clear-longest room h =
+    let fits : leb (length (framesOf (clearCommands raised))) room ≡ true = rw raised-clear (le-leb longest room h) in
+    let stands : eqb (raised .«override_id») 0 ≡ false = unfold withOverride in refl in
+    rw (raised-sound, stands, fits) raised-clear
 
 pub longest-reached : LongestReached
-unfolding largest countdown effect outcome
-longest-reached room h = (largest, refl, clear-largest room h)
+unfolding records countdown effect outcome
+longest-reached = (
+  records,
+  largestLimit,
+  largestLimit,
+  chosen,
+  refl,
+  records-opened,
+  λ room h. (
+    ap (λ (o : Outcome). o .code) (raise-accepted room h),
+    ap (λ (o : Outcome). length (framesOf (clearCall room (o .desk) .commands))) (raise-accepted room h) ∙ clear-longest room h,
+  ),
+)

@@ -1,13 +1,13 @@
--- Refusals keep the record and write nothing, a refused opening closes the desk, and only a raise and a clear move the override.
+-- Refusals keep the record and the lent buffer, a refused opening closes the desk, and only a raise and a clear move the override.
 -- Assumes nothing.
 use Prim.Native.Nat.{ℕ, _≤_}
 use native.Mathlib.Omega.{arith}
 use mathlib.Core.Path.{_≡_, refl, sym, ap, _∙_}
 use mathlib.Core.Bool.{true, false, cond}
-use mathlib.Core.List.{List, [], _∷_}
+use mathlib.Core.List.{List, [], _∷_, _++_}
 use lib.Dec.{leb, eqb}
 use lib.IntN.{ℤ}
-use lib.ListN.{length}
+use lib.ListN.{length, drop}
 use Rattle.desk.specs.declared.record.Desk.{Desk}
 use Rattle.desk.specs.Limit.{isLimit}
 use Rattle.desk.specs.Watch.{has}
@@ -15,7 +15,7 @@ use Rattle.desk.specs.Record.{watched, sound, closed, openedWith, withDo
 use Rattle.desk.specs.Opening.{openCode, refusedOpening, opening}
 use Rattle.desk.specs.Command.{Command, framesOf}
 use Rattle.desk.specs.Call.{Call, Outcome, outcome, refused, sent, asked, limitCall, runningCall, raiseCall, clearCall, raiseCommands, clearCommands}
-use Rattle.desk.specs.Effect.{effect}
+use Rattle.desk.specs.Effect.{effect, returned, bufferAfter}
 use Rattle.desk.specs.Demands.{overrideAfter, standingAfter, RefusalKeeps, RefusalCloses, OverrideMoves}
 use Rattle.desk.proofs.Cases.{by-cases, cond-cases}
 
@@ -84,10 +84,11 @@ outcome-kept Call.clear room d =
     (λ _. refuse 38 refl)
 
 pub refusal-keeps : RefusalKeeps
-unfolding effect framesOf
-refusal-keeps c room d h =
-    let k = outcome-kept c room d in
-    (k .desk h, ap framesOf (k .commands h))
+unfolding effect returned bufferAfter framesOf
+refusal-keeps c before d h =
+    let k = outcome-kept c (length before) d in
+    let nothing = ap framesOf (k .commands h) in
+    (k .desk h, ap length nothing, ap (λ (l : List ℕ). l ++ drop (length l) before) nothing)
 
 pub override-moves : OverrideMoves
 unfolding effect

@@ -1,21 +1,19 @@
 -- The frame writer writes the desk's frames into the most bytes that a call writes.
 -- Assumes nothing.
-use Prim.Native.Nat.{ℕ, _+_, _*_, _≤_}
+use Prim.Native.Nat.{ℕ, _≤_}
 use mathlib.Core.Path.{_≡_, refl, sym, ap, subst, _∙_}
 use mathlib.Core.Logic.{⊎-elim}
-use mathlib.Core.Bool.{Bool, true, false, _&&_}
+use mathlib.Core.Bool.{true}
 use mathlib.Core.List.{List, [], _∷_}
 use native.Mathlib.Omega.{arith}
-use lib.IntN.{ℤ, pos}
+use lib.IntN.{ℤ}
 use lib.ListN.{length}
-use Rattle.bencode.specs.Value.{integer, list, value, encode}
+use Rattle.bencode.specs.Value.{list, encode}
 use Rattle.ipc.specs.declared.write.Given.{Given}
 use Rattle.ipc.specs.declared.write.Written.{Written}
-use Rattle.ipc.specs.Demands.{IdList}
-use Rattle.ipc.specs.Header.{headerLength, largestPayload}
 use Rattle.ipc.specs.Keys.{classOf, isWritten, listed}
 use Rattle.ipc.specs.Meaning.{isId as isIdValue, every}
-use Rattle.ipc.specs.Write.{isIdList, valueFits, payloadOf, frameOf, messageFault, writeAnswer}
+use Rattle.ipc.specs.Write.{isIdList, valueFits, payloadOf, messageFault, writeAnswer}
 use Rattle.ipc.proofs.IdLists.{id-list-exactly}
 use Rattle.ipc.proofs.Inverts.{and-left, and-right}
 use Rattle.ipc.proofs.OutcomeLaws.{frame-length, fitted-count}

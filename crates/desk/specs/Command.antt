@@ -66,15 +66,15 @@ unfoldable pub listing : (List ℕ → Command) → List ℕ → List Command
 listing c [] = []
 listing c (x ∷ xs) = c (x ∷ xs) ∷ []
 
+-- the most bytes that a call writes
+abbrev pub longest : ℕ
+longest = 479
+
 -- ---- for the functions that put frames
 -- the frame of a list of IDs; none where the list is empty
 unfoldable pub listedFrame : ℕ → List ℕ → List ℕ
 listedFrame key [] = []
 listedFrame key (x ∷ xs) = idsFrame key (x ∷ xs)
-
--- the most bytes that a call writes
-abbrev pub longest : ℕ
-longest = 479
 
 -- the frame writer writes a message into so many bytes
 abbrev pub Writable : ℕ → Given → List ℕ → Type 0

@@ -2,8 +2,8 @@
 -- Assumes nothing.
 use Prim.Native.Nat.{ℕ, _≤_}
 use mathlib.Core.Path.{_≡_}
-use mathlib.Core.Bool.{Bool, true, false, cond, not, _&&_, _||_}
-use mathlib.Core.List.{List, [], _∷_}
+use mathlib.Core.Bool.{Bool, cond, not, _&&_, _||_}
+use mathlib.Core.List.{List, [], _∷_, map}
 use mathlib.Core.Option.{Option, some}
 use lib.Dec.{eqb}
 use lib.IntN.{ℤ}
@@ -13,7 +13,7 @@ use Rattle.desk.specs.declared.record.Desk.{Desk}
 use Rattle.desk.specs.Limit.{unlimited}
 use Rattle.desk.specs.Watch.{mostWatched, has, marked}
 use Rattle.desk.specs.Record.{closed}
-use Rattle.desk.specs.Opening.{openCode, opening}
+use Rattle.desk.specs.Opening.{opening}
 use Rattle.desk.specs.Command.{longest}
 use Rattle.desk.specs.Call.{Call, outcome}
 use Rattle.desk.specs.Effect.{Effect, effect, returned, bufferAfter}
@@ -77,30 +77,39 @@ overridden watch others x = record { down = unlimited; up = unlimited; runs = λ
 
 -- demand 3: after any list of calls, with no override the daemon is as the routine requests alone leave it, with one as above
 abbrev pub Demand3 : Type 0
-Demand3 = (watch : List Watch) (down up : ℤ) (others : ℕ → Bool) (calls : List Turn) → openCode (length watch) watch down up ≡ 0
+Demand3 = (watch : List Watch) (down up : ℤ) (others : ℕ → Bool) (calls : List Turn) → opening (length watch) watch down up .code ≡ 0
     → let w = turns calls (afterOpening watch down up others) in
     w .daemon ≡ some (cond (eqb (w .standing) 0) (w .alone) (overridden watch others (w .standing)))
 
 -- ---- demand 1, beside the promises of the functions
--- a refused call returns the record as it was handed in, and writes nothing
+-- a refused call returns the record as it was handed in and count 0, and leaves the lent buffer as it was
 abbrev pub RefusalKeeps : Type 0
-RefusalKeeps = (c : Call) (room : ℕ) (d : Desk) → let e = effect (outcome c room d) in 2 ≤ e .code → (e .desk ≡ d) × (e .bytes ≡ [])
+RefusalKeeps = (c : Call) (before : List ℕ) (d : Desk) → let e = effect (outcome c (length before) d) in
+    2 ≤ e .code → (returned e .desk ≡ d) × (returned e .count ≡ 0) × (bufferAfter e before ≡ before)
 
 -- a refused opening returns a closed desk
 abbrev pub RefusalCloses : Type 0
 RefusalCloses = (n : ℕ) (watch : List Watch) (down up : ℤ) → (opening n watch down up .code ≡ 0 → ⊥) → opening n watch down up .desk ≡ closed
 
 -- ---- what else document 01 says of every call
--- no call writes more than 479 bytes, and one writes as many
+-- the list is fixed from opening on: every call keeps the number of records and the ID at each place
+abbrev pub ListFixed : Type 0
+ListFixed = (c : Call) (room : ℕ) (d : Desk) → let next = outcome c room d .desk in
+    (next .count ≡ d .count) × (map (λ w. w .id) (next .watch) ≡ map (λ w. w .id) (d .watch))
+
+-- no call writes more than 479 bytes
 abbrev pub NoLonger : Type 0
 NoLonger = (c : Call) (room : ℕ) (d : Desk) → length (effect (outcome c room d) .bytes) ≤ longest
 
+-- and one writes as many: after some accepted opening with 32 records and an accepted raise, the clear, whatever room from 479 on is lent
 abbrev pub LongestReached : Type 0
-LongestReached = (room : ℕ) → longest ≤ room → (d : Desk) × (length (d .watch) ≡ mostWatched) × (length (effect (outcome Call.clear room d) .bytes) ≡ longest)
+LongestReached = (watch : List Watch) × (down : ℤ) × (up : ℤ) × (x : ℕ) × (length watch ≡ mostWatched) × (opening (length watch) watch down up .code ≡ 0)
+    × ((room : ℕ) → longest ≤ room → let raised = outcome (Call.raise x) room (opening (length watch) watch down up .desk) in
+    (raised .code ≡ 0) × (length (effect (outcome Call.clear room (raised .desk)) .bytes) ≡ longest))
 
 -- after an accepted opening no call answers 38
 abbrev pub NeverBadRecord : Type 0
-NeverBadRecord = (watch : List Watch) (down up : ℤ) (others : ℕ → Bool) (calls : List Turn) (c : Call) (room : ℕ) → openCode (length watch) watch down up ≡ 0
+NeverBadRecord = (watch : List Watch) (down up : ℤ) (others : ℕ → Bool) (calls : List Turn) (c : Call) (room : ℕ) → opening (length watch) watch down up .code ≡ 0
     → effect (outcome c room (turns calls (afterOpening watch down up others) .desk)) .code ≡ 38 → ⊥
 
 -- an accepted raise sets the override, an accepted clear makes it 0, and nothing else moves it

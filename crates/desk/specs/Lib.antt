@@ -7,3 +7,4 @@ pub mod Call
 pub mod Effect
 pub mod Machine
 pub mod Demands
+pub mod Tries

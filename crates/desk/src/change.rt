@@ -2,7 +2,7 @@
 ghost use mathlib.Core.Path.{_≡_};
 ghost use mathlib.Core.Bool.{true};
 ghost use Prim.Native.Nat.{_≤_};
-ghost use Rattle.desk.specs.Watch.{has};
+ghost use Rattle.desk.specs.Watch.{mostWatched, has};
 ghost use Rattle.desk.specs.Record.{watched, closed, withDown, withUp, withOverride, withRunning};
 use super::lists::no_places;
 use super::lists::place_of;
@@ -53,7 +53,7 @@ pub fn with_override(d: Desk, id: u32) -> Desk
 
 // The record with a watched transfer desired running or stopped.
 pub fn with_running(d: Desk, id: u32, running: bool) -> Desk
-    requires { ⌜ (d .count ≤ 32) × (has id (watched d) ≡ true) ⌝ }
+    requires { ⌜ (d .count ≤ mostWatched) × (has id (watched d) ≡ true) ⌝ }
     ensures { λ r. ⌜ r ≡ withRunning id running d ⌝ }
 {
     let watch = d.watch;

@@ -1,6 +1,9 @@
 // What a call answers.
 use super::record::Desk;
 
+// The most bytes that a call writes.
+pub const LONGEST: usize = 479;
+
 // A call's code, how many bytes it wrote, and the record after it.
 pub struct Done {
     pub code: u8,
@@ -21,6 +24,6 @@ impl Done {
     pub const NONE_STANDS: u8 = 33;
     // A buffer shorter than the frames.
     pub const ROOM: u8 = 34;
-    // A record that no desk hands back.
+    // A record that is closed or breaks a rule of the record.
     pub const RECORD: u8 = 38;
 }

@@ -8,10 +8,11 @@ ghost use Rattle.bencode.specs.Put.{Wrote, Put};
 ghost use Rattle.bencode.specs.Value.{encodeAll};
 ghost use Rattle.ipc.specs.declared.write.Given.{Given};
 ghost use Rattle.desk.specs.Limit.{isLimit};
-ghost use Rattle.desk.specs.Watch.{isId, has, pickIds};
+ghost use Rattle.desk.specs.Watch.{mostWatched, isId, has, pickIds};
 ghost use Rattle.desk.specs.Record.{watched, sound};
 ghost use Rattle.desk.specs.Command.{values, idList, messageFrame, limitFrame, idsFrame, listedFrame, framesOf, Writable, LimitKey, ListKey};
 ghost use Rattle.desk.specs.Call.{raiseCommands, clearCommands};
+use super::done::LONGEST;
 use super::limit::Limit;
 use super::lists::Pick;
 use super::lists::picks;
@@ -21,9 +22,6 @@ use bencode::put::put_integer;
 use ipc::write::Given;
 use ipc::write::Written;
 use ipc::write::write;
-
-// The most bytes that a call writes.
-pub const LONGEST: usize = 479;
 
 // The numbers of the keys that the desk writes.
 pub const DOWNLIMIT: u8 = 5;
@@ -74,7 +72,7 @@ pub fn put_one(out: &mut [u8], at: usize, key: u8, id: u32) -> usize
 
 // Puts the watched IDs that are picked, in list order.
 fn put_items(out: &mut [u8], at: usize, d: Desk, pick: Pick) -> usize
-    requires { ⌜ (d .count ≤ 32) × (at + length (encodeAll (values (pickIds pick (watched d)))) ≤ length (now out)) ⌝ }
+    requires { ⌜ (d .count ≤ mostWatched) × (at + length (encodeAll (values (pickIds pick (watched d)))) ≤ length (now out)) ⌝ }
     ensures { λ r. ⌜ Wrote (now (out .entry)) at (encodeAll (values (pickIds pick (watched d)))) (now (out .exit)) r ⌝ }
 {
     let count = d.count;
@@ -92,7 +90,7 @@ fn put_items(out: &mut [u8], at: usize, d: Desk, pick: Pick) -> usize
 
 // Puts the list of the watched IDs that are picked.
 fn put_ids(out: &mut [u8], d: Desk, pick: Pick) -> usize
-    requires { ⌜ (d .count ≤ 32) × (length (idList (pickIds pick (watched d))) ≤ length (now out)) ⌝ }
+    requires { ⌜ (d .count ≤ mostWatched) × (length (idList (pickIds pick (watched d))) ≤ length (now out)) ⌝ }
     ensures { λ r. ⌜ Wrote (now (out .entry)) 0 (idList (pickIds pick (watched d))) (now (out .exit)) r ⌝ }
 {
     let o = put_bytes(out, 0, b"l");

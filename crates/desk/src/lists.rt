@@ -3,16 +3,12 @@ ghost use mathlib.Core.Path.{_≡_};
 ghost use mathlib.Core.List.{[]};
 ghost use Prim.Native.Nat.{_≤_, _<_};
 ghost use lib.ListN.{take, drop, replicate, set};
-ghost use Rattle.desk.specs.Watch.{isId, empty, has, place, fault, unused, padded, picked};
+ghost use Rattle.desk.specs.Watch.{mostWatched, isId, empty, has, place, fault, unused, padded, picked};
+use super::opening::Opened;
 use super::watch::PLACES;
 use super::watch::Watch;
 use ipc::ids::OptionalId;
 use ipc::ids::TorrentId;
-
-// The codes of an ID out of range and of an ID again.
-const ID_RANGE: u8 = 36;
-
-const ID_AGAIN: u8 = 37;
 
 // Which of the watched transfers a start or stop lists: all but one, those desired running, or those desired stopped.
 pub enum Pick {
@@ -44,7 +40,7 @@ pub fn picks(pick: Pick, w: Watch) -> bool
 
 // Is an ID among the first n places.
 pub fn has_id(places: [Watch; PLACES], n: usize, id: u32) -> bool
-    requires { ⌜ n ≤ 32 ⌝ }
+    requires { ⌜ n ≤ mostWatched ⌝ }
     ensures { λ r. ⌜ r ≡ has id (take n places) ⌝ }
 {
     let mut i: usize = 0;
@@ -59,7 +55,7 @@ pub fn has_id(places: [Watch; PLACES], n: usize, id: u32) -> bool
 
 // The place of an ID among the first n; n where it is not there.
 pub fn place_of(places: [Watch; PLACES], n: usize, id: u32) -> usize
-    requires { ⌜ n ≤ 32 ⌝ }
+    requires { ⌜ n ≤ mostWatched ⌝ }
     ensures { λ r. ⌜ r ≡ place id (take n places) ⌝ }
 {
     let mut i: usize = 0;
@@ -74,17 +70,17 @@ pub fn place_of(places: [Watch; PLACES], n: usize, id: u32) -> usize
 
 // The first fault of the first n records: an ID out of range, an ID again, or 0 for none.
 pub fn fault_of(places: [Watch; PLACES], n: usize) -> u8
-    requires { ⌜ n ≤ 32 ⌝ }
+    requires { ⌜ n ≤ mostWatched ⌝ }
     ensures { λ r. ⌜ r ≡ fault [] (take n places) ⌝ }
 {
     let mut i: usize = 0;
     while i < n {
         let id = places[i].id;
         if !is_id(id) {
-            return ID_RANGE;
+            return Opened::ID_RANGE;
         }
         if has_id(places, i, id) {
-            return ID_AGAIN;
+            return Opened::ID_AGAIN;
         }
         i += 1;
     }
@@ -110,7 +106,7 @@ pub fn unused_from(places: [Watch; PLACES], n: usize) -> bool
 
 // Empty places.
 pub fn no_places() -> [Watch; PLACES]
-    ensures { λ r. ⌜ r ≡ replicate 32 empty ⌝ }
+    ensures { λ r. ⌜ r ≡ replicate mostWatched empty ⌝ }
 {
     [Watch {
         id: 0,
@@ -120,7 +116,7 @@ pub fn no_places() -> [Watch; PLACES]
 
 // The places with a record at one of them.
 pub fn with_watch(places: [Watch; PLACES], i: usize, w: Watch) -> [Watch; PLACES]
-    requires { ⌜ i < 32 ⌝ }
+    requires { ⌜ i < mostWatched ⌝ }
     ensures { λ r. ⌜ r ≡ set places i w ⌝ }
 {
     let mut next = places;
@@ -130,7 +126,7 @@ pub fn with_watch(places: [Watch; PLACES], i: usize, w: Watch) -> [Watch; PLACES
 
 // The first n records, and empty places after them.
 pub fn cleared_from(places: [Watch; PLACES], n: usize) -> [Watch; PLACES]
-    requires { ⌜ n ≤ 32 ⌝ }
+    requires { ⌜ n ≤ mostWatched ⌝ }
     ensures { λ r. ⌜ r ≡ padded (take n places) ⌝ }
 {
     let mut next = no_places();

@@ -2,7 +2,7 @@
 ghost use mathlib.Core.Path.{_≡_};
 ghost use Prim.Native.Nat.{_≤_, min};
 ghost use lib.ListN.{length, take};
-ghost use Rattle.desk.specs.Watch.{padded};
+ghost use Rattle.desk.specs.Watch.{mostWatched, padded};
 ghost use Rattle.desk.specs.Opening.{refusedOpening, opening};
 use super::change::closed_desk;
 use super::limit::is_limit;
@@ -25,6 +25,10 @@ impl Opened {
     pub const LIMIT: u8 = 30;
     // More records than places.
     pub const LIST: u8 = 35;
+    // An ID out of range.
+    pub const ID_RANGE: u8 = 36;
+    // An ID again.
+    pub const ID_AGAIN: u8 = 37;
 }
 
 // A refused opening.
@@ -37,7 +41,8 @@ fn refuse_opening(code: u8) -> Opened
     }
 }
 
-// Opens with the first `count` of the records, where `count` is how many were lent.
+// Opens with the first `count` of the records, where `count` is how many were lent. It clears the places past them itself, so
+// that it takes any array.
 fn open_core(watch: [Watch; PLACES], count: usize, down: i32, up: i32) -> Opened
     ensures { λ r. ⌜ r ≡ opening count (take count watch) down up ⌝ }
 {
@@ -68,7 +73,7 @@ fn open_core(watch: [Watch; PLACES], count: usize, down: i32, up: i32) -> Opened
 
 // How many of n records there are places for.
 fn places_for(n: usize) -> usize
-    ensures { λ r. ⌜ r ≡ min n 32 ⌝ }
+    ensures { λ r. ⌜ r ≡ min n mostWatched ⌝ }
 {
     if n < PLACES { n } else { PLACES }
 }
@@ -94,15 +99,16 @@ pub fn open(list: &[Watch], down: i32, up: i32) -> Opened
     open_core(copied(list), list.len(), down, up)
 }
 
-// Opens with the first records of an array, lent to `open`.
+// Opens with the first records of an array, which are lent to `open`.
 fn open_lent(watch: [Watch; PLACES], count: usize, down: i32, up: i32) -> Opened
-    requires { ⌜ count ≤ 32 ⌝ }
+    requires { ⌜ count ≤ mostWatched ⌝ }
     ensures { λ r. ⌜ r ≡ opening count (take count watch) down up ⌝ }
 {
     open(&watch[..count], down, up)
 }
 
-// The same for any count: neither it nor its callers hold a slice of structs, which a proof has to walk by hand.
+// Opens with the first `count` records of an array; those past them are passed over, and a count over the places is refused.
+// Neither this function nor its callers hold a slice of structs, which a proof has to walk by hand.
 pub fn open_records(watch: [Watch; PLACES], count: usize, down: i32, up: i32) -> Opened
     ensures { λ r. ⌜ r ≡ opening count (take count watch) down up ⌝ }
 {

@@ -1,7 +1,7 @@
 // Which records a call takes.
 ghost use mathlib.Core.Path.{_≡_};
 ghost use Prim.Native.Nat.{_≤_};
-ghost use Rattle.desk.specs.Watch.{has};
+ghost use Rattle.desk.specs.Watch.{mostWatched, has};
 ghost use Rattle.desk.specs.Record.{watched, limitsSound, listSound, sound};
 use super::limit::is_limit;
 use super::lists::fault_of;
@@ -22,7 +22,7 @@ fn limits_sound(d: Desk) -> bool
 
 // Is the watch list in order, its unused places empty, and an override on a watched ID.
 fn list_sound(d: Desk) -> bool
-    requires { ⌜ d .count ≤ 32 ⌝ }
+    requires { ⌜ d .count ≤ mostWatched ⌝ }
     ensures { λ r. ⌜ r ≡ listSound d ⌝ }
 {
     let watch = d.watch;
@@ -56,7 +56,7 @@ pub fn is_sound(d: Desk) -> bool
 
 // Is an ID watched.
 pub fn watches(d: Desk, id: u32) -> bool
-    requires { ⌜ d .count ≤ 32 ⌝ }
+    requires { ⌜ d .count ≤ mostWatched ⌝ }
     ensures { λ r. ⌜ r ≡ has id (watched d) ⌝ }
 {
     let watch = d.watch;

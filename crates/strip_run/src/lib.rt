@@ -1,4 +1,5 @@
 // Runs a strip: opens the desk, makes the calls one by one and prints a line for each.
+use desk::done::LONGEST;
 use desk::opening::open_records;
 use desk::record::Desk;
 use desk::watch::PLACES;
@@ -26,9 +27,6 @@ pub struct Run {
     pub gathered: Gathered,
     pub desk: Desk,
 }
-
-// Room for the longest call.
-const ROOM: usize = 479;
 
 fn print(text: &[u8]) {
     io::write_all(STDOUT_FILENO, text);
@@ -165,7 +163,7 @@ fn take_record(run: Run, found: Record, offset: usize, out: &mut [u8]) -> Run {
 
 // Runs a strip. The number of turns is bounded so that it is seen to end; a record has a byte at least, so no strip has so many.
 pub fn run_strip(s: &[u8]) {
-    let mut space = [0u8; ROOM];
+    let mut space = [0u8; LONGEST];
     let out: &mut [u8] = &mut space;
     let mut run = begun();
     let mut left: u32 = 20000;

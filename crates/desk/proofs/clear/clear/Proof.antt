@@ -1,10 +1,7 @@
 -- `desk::clear::clear` meets its contract.
 -- Assumes nothing.
-use Prim.Native.Nat.{ℕ}
-use mathlib.Core.Path.{_≡_, refl, sym, ap, _∙_}
+use mathlib.Core.Path.{_≡_, refl, sym, _∙_}
 use mathlib.Core.Bool.{true, false}
-use mathlib.Core.List.{List, [], _∷_}
-use native.Mathlib.Omega.{arith}
 use borrow.Author.Tests.{not-true, not-false}
 use denote.Ref.{now}
 use lib.ListN.{length}
@@ -18,13 +15,6 @@ use Rattle.desk.proofs.PutFrames.{Front, front-wrote, front-count}
 use borrow.Author.Needs.{needs}
 use Rattle.desk.proofs.clear.clear.Statement.{statement}
 use Rattle.desk.proofs.clear.clear.Tie as tie
-use Rattle.desk.proofs.clear.clear.Reads as reads
-use Rattle.desk.proofs.clear.clear.Lts as lts
-use Rattle.desk.proofs.effect.deliver.Reads as deliver-reads
-use Rattle.desk.proofs.effect.refuse.Reads as refuse-reads
-use Rattle.desk.proofs.frames.put_clear.Reads as put-clear-reads
-use Rattle.desk.proofs.sound.is_sound.Reads as is-sound-reads
-use Rattle.desk.proofs.change.with_override.Reads as with-override-reads
 
 -- the tests passed so far
 bad : (c : tie.Then1) → sound (c .before .before .before .args .d) ≡ false

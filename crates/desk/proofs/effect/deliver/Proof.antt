@@ -7,7 +7,6 @@ use Rattle.desk.proofs.EffectLaws.{nothing-written, delivered-short, de
 use borrow.Author.Needs.{needs}
 use Rattle.desk.proofs.effect.deliver.Statement.{statement}
 use Rattle.desk.proofs.effect.deliver.Tie as tie
-use Rattle.desk.proofs.effect.deliver.Reads as reads
 
 refuse-requires : tie.Need-refuse-requires
 refuse-requires c κs = search needs

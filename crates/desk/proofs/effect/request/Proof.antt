@@ -8,7 +8,6 @@ use Rattle.desk.proofs.EffectLaws.{nothing-written, requested-free, req
 use borrow.Author.Needs.{needs}
 use Rattle.desk.proofs.effect.request.Statement.{statement}
 use Rattle.desk.proofs.effect.request.Tie as tie
-use Rattle.desk.proofs.effect.request.Reads as reads
 
 deliver-requires : tie.Need-deliver-requires
 deliver-requires c κs = search needs

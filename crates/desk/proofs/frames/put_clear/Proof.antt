@@ -1,12 +1,11 @@
 -- `desk::frames::put_clear` meets its contract.
 -- Assumes nothing.
 use Prim.Native.Nat.{ℕ}
-use mathlib.Core.Path.{_≡_, refl, ap}
+use mathlib.Core.Path.{refl}
 use mathlib.Core.Logic.{inl, inr}
 use mathlib.Core.List.{List, [], _∷_}
 use native.Mathlib.Omega.{arith}
 use denote.Ref.{now}
-use lib.ListN.{length}
 use mir.Syntax.{w32}
 use mir.Val.{SFits}
 use mir.ValLaws.{toZ-ofZ}
@@ -21,10 +20,6 @@ use Rattle.desk.proofs.SoundLaws.{sound-parts}
 use borrow.Author.Needs.{needs}
 use Rattle.desk.proofs.frames.put_clear.Statement.{statement}
 use Rattle.desk.proofs.frames.put_clear.Tie as tie
-use Rattle.desk.proofs.frames.put_clear.Reads as reads
-use Rattle.desk.proofs.frames.put_clear.Lts as lts
-use Rattle.desk.proofs.frames.put_limit.Reads as put-limit-reads
-use Rattle.desk.proofs.frames.put_listed.Reads as put-listed-reads
 
 -- the IDs to stop and to start, and what is left to put
 abbrev stops : tie.Start → List ℕ

@@ -13,10 +13,6 @@ use Rattle.desk.proofs.ListParts.{listParts, list-parts}
 use borrow.Author.Needs.{needs}
 use Rattle.desk.proofs.frames.put_ids.Statement.{statement}
 use Rattle.desk.proofs.frames.put_ids.Tie as tie
-use Rattle.desk.proofs.frames.put_ids.Reads as reads
-use Rattle.desk.proofs.frames.put_ids.Lts as lts
-use Rattle.bencode.proofs.put.put_bytes.Reads as put-bytes-reads
-use Rattle.desk.proofs.frames.put_items.Reads as put-items-reads
 
 -- the IDs, and what is left to put
 abbrev picked-ids : tie.Start → List ℕ

@@ -1,29 +1,23 @@
 -- `desk::frames::put_items` meets its contract. The invariant: the IDs of the records from i on are left to put.
 -- Assumes nothing.
-use Prim.Native.Nat.{ℕ, _+_, _-_, _≤_, _<_, _^_}
-use mathlib.Core.Path.{_≡_, refl, sym, ap, _∙_}
-use mathlib.Core.Bool.{true, false}
+use Prim.Native.Nat.{_-_, _≤_, _<_, _^_}
+use mathlib.Core.Path.{_≡_, refl, sym, _∙_}
 use mathlib.Core.Logic.{⊎-elim}
-use mathlib.Core.List.{List, [], _∷_}
+use mathlib.Core.List.{[]}
 use native.Mathlib.Omega.{arith}
-use lib.ListN.{length, length-map, getD, take, drop}
+use lib.ListN.{length, length-map, getD, drop}
 use borrow.Author.Needs.{needs}
-use denote.Ref.{now}
 use lib.IntN.{pos}
 use Rattle.bencode.specs.Put.{Put}
 use Rattle.bencode.specs.Value.{integer, encode}
 use Rattle.bencode.proofs.PutLaws.{Writing, start, finish}
 use Rattle.ipc.proofs.Ranges.{natural-machine}
-use Rattle.desk.specs.Watch.{empty, picked, filtered, pickIds}
+use Rattle.desk.specs.Watch.{empty, filtered, pickIds}
 use Rattle.desk.specs.Record.{watched}
 use Rattle.desk.proofs.ListParts.{itemParts, item-parts, item-put, item-passed}
 use Rattle.desk.proofs.Scans.{record-next, record-none}
 use Rattle.desk.proofs.frames.put_items.Statement.{statement}
 use Rattle.desk.proofs.frames.put_items.Tie as tie
-use Rattle.desk.proofs.frames.put_items.Reads as reads
-use Rattle.desk.proofs.frames.put_items.Lts as lts
-use Rattle.bencode.proofs.put.put_integer.Reads as put-integer-reads
-use Rattle.desk.proofs.lists.picks.Reads as picks-reads
 
 abbrev Inv-loop : tie.InvT-loop
 Inv-loop out₀ at pick d count o₀ i₀ out o i = (i ≤ d .count) × Writing out₀ at (itemParts (pickIds pick (watched d))) out o (itemParts (pickIds pick (drop i (watched d))))

@@ -12,9 +12,6 @@ use Rattle.desk.proofs.Writes.{limit-writable}
 use borrow.Author.Needs.{needs}
 use Rattle.desk.proofs.frames.put_limit.Statement.{statement}
 use Rattle.desk.proofs.frames.put_limit.Tie as tie
-use Rattle.desk.proofs.frames.put_limit.Reads as reads
-use Rattle.desk.proofs.frames.put_limit.Lts as lts
-use Rattle.desk.proofs.frames.put_message.Reads as put-message-reads
 
 cast-t8 : tie.Need-cast-t8
 cast-t8 c = wide-fits (c .before .before .args .limit) (c .before .before .fits .limit)

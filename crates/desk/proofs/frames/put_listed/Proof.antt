@@ -1,8 +1,6 @@
 -- `desk::frames::put_listed` meets its contract.
 -- Assumes nothing.
-use Prim.Native.Nat.{ℕ}
-use mathlib.Core.Path.{_≡_, sym, _∙_}
-use mathlib.Core.List.{List, []}
+use mathlib.Core.Path.{sym, _∙_}
 use denote.Ref.{now}
 use Rattle.desk.specs.Watch.{pickIds}
 use Rattle.desk.specs.Record.{watched}
@@ -14,10 +12,6 @@ use Rattle.desk.proofs.Writes.{ids-writable}
 use borrow.Author.Needs.{needs}
 use Rattle.desk.proofs.frames.put_listed.Statement.{statement}
 use Rattle.desk.proofs.frames.put_listed.Tie as tie
-use Rattle.desk.proofs.frames.put_listed.Reads as reads
-use Rattle.desk.proofs.frames.put_listed.Lts as lts
-use Rattle.desk.proofs.frames.put_ids.Reads as put-ids-reads
-use Rattle.desk.proofs.frames.put_message.Reads as put-message-reads
 
 -- the list stands at the front
 front : (c : tie.After-put-ids) → Front (idList (pickIds (c .before .before .before .args .pick) (watched (c .before .before .before .args .d)))) (c .put-ids .last .0) (c .put-ids .result)

@@ -1,20 +1,14 @@
 -- `desk::frames::put_message` meets its contract.
 -- Assumes nothing.
-use Prim.Native.Nat.{_+_}
-use mathlib.Core.Path.{_≡_, refl, subst}
+use mathlib.Core.Path.{refl, subst}
 use mathlib.Core.List.{List}
 use denote.Ref.{now}
-use lib.ListN.{length, take}
 use Rattle.bencode.specs.Put.{Put}
 use Rattle.desk.specs.Command.{messageFrame}
 use Rattle.desk.proofs.PutFrames.{Front, front-count, never-refused, frame-front}
 use borrow.Author.Needs.{needs}
 use Rattle.desk.proofs.frames.put_message.Statement.{statement}
 use Rattle.desk.proofs.frames.put_message.Tie as tie
-use Rattle.desk.proofs.frames.put_message.Reads as reads
-use Rattle.desk.proofs.frames.put_message.Lts as lts
-use Rattle.bencode.proofs.put.put_bytes.Reads as put-bytes-reads
-use Rattle.ipc.proofs.write.write.Reads as write-reads
 
 -- the writer left the frame at the front
 front : (c : tie.After-n) →

@@ -1,6 +1,6 @@
 -- `desk::frames::put_one` meets its contract.
 -- Assumes nothing.
-use Prim.Native.Nat.{ℕ, _+_, _≤_, _<_, _^_}
+use Prim.Native.Nat.{ℕ, _≤_, _<_, _^_}
 use mathlib.Core.Path.{_≡_}
 use mathlib.Core.Bool.{true}
 use mathlib.Core.List.{List, [], _∷_}
@@ -19,11 +19,6 @@ use Rattle.desk.proofs.Writes.{ids-writable}
 use borrow.Author.Needs.{needs}
 use Rattle.desk.proofs.frames.put_one.Statement.{statement}
 use Rattle.desk.proofs.frames.put_one.Tie as tie
-use Rattle.desk.proofs.frames.put_one.Reads as reads
-use Rattle.desk.proofs.frames.put_one.Lts as lts
-use Rattle.bencode.proofs.put.put_bytes.Reads as put-bytes-reads
-use Rattle.bencode.proofs.put.put_integer.Reads as put-integer-reads
-use Rattle.desk.proofs.frames.put_message.Reads as put-message-reads
 
 room : (id : ℕ) → isId id ≡ true → length (idList (id ∷ [])) ≤ 479
 room id h = omega (arith, list-length (id ∷ []), items-small (id ∷ []) (one-id id h .0))

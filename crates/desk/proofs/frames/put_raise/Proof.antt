@@ -1,12 +1,11 @@
 -- `desk::frames::put_raise` meets its contract.
 -- Assumes nothing.
 use Prim.Native.Nat.{ℕ}
-use mathlib.Core.Path.{_≡_, refl, ap}
+use mathlib.Core.Path.{refl}
 use mathlib.Core.Logic.{inl, inr}
 use mathlib.Core.List.{List, [], _∷_}
 use native.Mathlib.Omega.{arith}
 use denote.Ref.{now}
-use lib.ListN.{length}
 use Rattle.bencode.proofs.PutLaws.{Writing, start, next-put, finish}
 use Rattle.desk.specs.declared.lists.Pick.{Pick}
 use Rattle.desk.specs.Limit.{unlimited, isLimit}
@@ -20,11 +19,6 @@ use Rattle.desk.proofs.WatchLists.{has-id}
 use borrow.Author.Needs.{needs}
 use Rattle.desk.proofs.frames.put_raise.Statement.{statement}
 use Rattle.desk.proofs.frames.put_raise.Tie as tie
-use Rattle.desk.proofs.frames.put_raise.Reads as reads
-use Rattle.desk.proofs.frames.put_raise.Lts as lts
-use Rattle.desk.proofs.frames.put_limit.Reads as put-limit-reads
-use Rattle.desk.proofs.frames.put_listed.Reads as put-listed-reads
-use Rattle.desk.proofs.frames.put_one.Reads as put-one-reads
 
 -- the IDs to stop, and what is left to put
 abbrev others : tie.Start → List ℕ

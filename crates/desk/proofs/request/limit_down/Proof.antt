@@ -1,7 +1,7 @@
 -- `desk::request::limit_down` meets its contract.
 -- Assumes nothing.
 use mathlib.Core.Path.{refl}
-use mathlib.Core.Logic.{inl, inr}
+use mathlib.Core.Logic.{inl}
 use denote.Ref.{now}
 use lib.ListN.{length}
 use mir.Syntax.{w32}
@@ -13,10 +13,6 @@ use Rattle.desk.proofs.EffectLaws.{returned-as, effect-limit}
 use borrow.Author.Needs.{needs}
 use Rattle.desk.proofs.request.limit_down.Statement.{statement}
 use Rattle.desk.proofs.request.limit_down.Tie as tie
-use Rattle.desk.proofs.request.limit_down.Reads as reads
-use Rattle.desk.proofs.request.limit_down.Lts as lts
-use Rattle.desk.proofs.change.with_down.Reads as with-down-reads
-use Rattle.desk.proofs.request.request_limit.Reads as request-limit-reads
 
 with-down-requires : tie.Need-with-down-requires
 with-down-requires c κs = search needs

@@ -1,7 +1,7 @@
 -- `desk::request::limit_up` meets its contract.
 -- Assumes nothing.
 use mathlib.Core.Path.{refl}
-use mathlib.Core.Logic.{inl, inr}
+use mathlib.Core.Logic.{inr}
 use denote.Ref.{now}
 use lib.ListN.{length}
 use mir.Syntax.{w32}
@@ -13,10 +13,6 @@ use Rattle.desk.proofs.EffectLaws.{returned-as, effect-limit}
 use borrow.Author.Needs.{needs}
 use Rattle.desk.proofs.request.limit_up.Statement.{statement}
 use Rattle.desk.proofs.request.limit_up.Tie as tie
-use Rattle.desk.proofs.request.limit_up.Reads as reads
-use Rattle.desk.proofs.request.limit_up.Lts as lts
-use Rattle.desk.proofs.change.with_up.Reads as with-up-reads
-use Rattle.desk.proofs.request.request_limit.Reads as request-limit-reads
 
 with-up-requires : tie.Need-with-up-requires
 with-up-requires c κs = search needs

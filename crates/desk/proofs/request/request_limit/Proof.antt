@@ -1,10 +1,7 @@
 -- `desk::request::request_limit` meets its contract.
 -- Assumes nothing.
-use Prim.Native.Nat.{ℕ}
-use mathlib.Core.Path.{_≡_, refl, sym, ap, _∙_}
+use mathlib.Core.Path.{_≡_, refl, sym, _∙_}
 use mathlib.Core.Bool.{true, false}
-use mathlib.Core.List.{List, [], _∷_}
-use native.Mathlib.Omega.{arith}
 use borrow.Author.Tests.{not-true, not-false}
 use denote.Ref.{now}
 use lib.ListN.{length}
@@ -12,7 +9,7 @@ use mir.Syntax.{w32}
 use mir.ValLaws.{toZ-ofZ}
 use Rattle.desk.specs.Limit.{isLimit}
 use Rattle.desk.specs.Record.{sound}
-use Rattle.desk.specs.Command.{limitFrame, longest}
+use Rattle.desk.specs.Command.{limitFrame}
 use Rattle.desk.specs.Effect.{refusal}
 use Rattle.desk.proofs.EffectLaws.{nothing-written, returned-as, limit-38, limit-30, limit-asks}
 use Rattle.desk.proofs.FrameLengths.{limit-room}
@@ -20,13 +17,6 @@ use Rattle.desk.proofs.PutFrames.{Front, front-put, front-count}
 use borrow.Author.Needs.{needs}
 use Rattle.desk.proofs.request.request_limit.Statement.{statement}
 use Rattle.desk.proofs.request.request_limit.Tie as tie
-use Rattle.desk.proofs.request.request_limit.Reads as reads
-use Rattle.desk.proofs.request.request_limit.Lts as lts
-use Rattle.desk.proofs.effect.refuse.Reads as refuse-reads
-use Rattle.desk.proofs.effect.request.Reads as request-reads
-use Rattle.desk.proofs.frames.put_limit.Reads as put-limit-reads
-use Rattle.desk.proofs.limit.is_limit.Reads as is-limit-reads
-use Rattle.desk.proofs.sound.is_sound.Reads as is-sound-reads
 
 -- the tests passed so far
 bad : (c : tie.Then1) → sound (c .before .before .before .args .d) ≡ false

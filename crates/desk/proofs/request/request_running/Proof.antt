@@ -1,15 +1,13 @@
 -- `desk::request::request_running` meets its contract.
 -- Assumes nothing.
-use Prim.Native.Nat.{ℕ}
-use mathlib.Core.Path.{_≡_, refl, sym, ap, _∙_}
+use mathlib.Core.Path.{_≡_, refl, sym, _∙_}
 use mathlib.Core.Bool.{true, false}
-use mathlib.Core.List.{List, [], _∷_}
-use native.Mathlib.Omega.{arith}
+use mathlib.Core.List.{[], _∷_}
 use borrow.Author.Tests.{not-true, not-false}
 use denote.Ref.{now}
 use lib.ListN.{length}
 use Rattle.desk.specs.Watch.{has, isId}
-use Rattle.desk.specs.Record.{watched, sound, withRunning}
+use Rattle.desk.specs.Record.{watched, sound}
 use Rattle.desk.specs.Command.{idsFrame}
 use Rattle.desk.specs.Effect.{refusal}
 use Rattle.desk.proofs.EffectLaws.{nothing-written, returned-as, running-38, running-31, running-asks}
@@ -20,14 +18,6 @@ use Rattle.desk.proofs.WatchLists.{has-id}
 use borrow.Author.Needs.{needs}
 use Rattle.desk.proofs.request.request_running.Statement.{statement}
 use Rattle.desk.proofs.request.request_running.Tie as tie
-use Rattle.desk.proofs.request.request_running.Reads as reads
-use Rattle.desk.proofs.request.request_running.Lts as lts
-use Rattle.desk.proofs.effect.refuse.Reads as refuse-reads
-use Rattle.desk.proofs.effect.request.Reads as request-reads
-use Rattle.desk.proofs.frames.put_one.Reads as put-one-reads
-use Rattle.desk.proofs.sound.is_sound.Reads as is-sound-reads
-use Rattle.desk.proofs.sound.watches.Reads as watches-reads
-use Rattle.desk.proofs.change.with_running.Reads as with-running-reads
 
 -- the tests passed so far
 bad : (c : tie.Then1) → sound (c .before .before .before .args .d) ≡ false

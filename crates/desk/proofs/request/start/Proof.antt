@@ -1,8 +1,8 @@
 -- `desk::request::start` meets its contract.
 -- Assumes nothing.
 use mathlib.Core.Path.{refl}
-use mathlib.Core.Logic.{inl, inr}
-use mathlib.Core.Bool.{true, false}
+use mathlib.Core.Logic.{inl}
+use mathlib.Core.Bool.{true}
 use mathlib.Core.List.{[], _∷_}
 use denote.Ref.{now}
 use lib.ListN.{length}
@@ -13,9 +13,6 @@ use Rattle.desk.proofs.EffectLaws.{returned-as, effect-running}
 use borrow.Author.Needs.{needs}
 use Rattle.desk.proofs.request.start.Statement.{statement}
 use Rattle.desk.proofs.request.start.Tie as tie
-use Rattle.desk.proofs.request.start.Reads as reads
-use Rattle.desk.proofs.request.start.Lts as lts
-use Rattle.desk.proofs.request.request_running.Reads as request-running-reads
 
 request-running-requires : tie.Need-request-running-requires
 request-running-requires c κs = inl refl
