@@ -1,0 +1,46 @@
+#!/bin/sh
+# Builds the consoles of examples/console.c and bench/console.rs over the static library, and compares what they print
+# with the lines of tools/console_capture.py: for the stored capture and for random ones.
+# Usage: tools/console.sh [CAPTURES]; 200 random captures unless told otherwise.
+set -eu
+cd "$(dirname "$0")/.."
+
+out=target/console
+mkdir -p "$out"
+rt staticlib c_api >"$out/staticlib.log" 2>&1 || {
+    cat "$out/staticlib.log" >&2
+    exit 1
+}
+gcc -std=c99 -pedantic -Wall -Wextra -Werror -O2 -Iinclude examples/console.c target/staticlib/libc_api.a -o "$out/console_c"
+rustc --edition 2021 -C opt-level=3 -D warnings --crate-name console bench/console.rs \
+    -C link-arg=target/staticlib/libc_api.a -o "$out/console_rust"
+
+# compare CAPTURE LINES: both consoles print the lines.
+compare() {
+    for console in console_c console_rust; do
+        "$out/$console" <"$1" >"$out/$console.txt"
+        cmp "$out/$console.txt" "$2" || {
+            echo "$console differs on $1" >&2
+            exit 1
+        }
+    done
+}
+
+# The stored files are what the generator makes.
+python3 tools/console_capture.py write "$out"
+cmp "$out/capture.bin" examples/capture.bin
+cmp "$out/capture.txt" examples/capture.txt
+compare examples/capture.bin examples/capture.txt
+echo "stored capture: $(wc -l <examples/capture.txt) lines, the same from C, Rust and Python"
+
+captures=${1:-200}
+lines=0
+seed=0
+while [ "$seed" -lt "$captures" ]; do
+    python3 tools/console_capture.py random "$seed" >"$out/random.bin"
+    python3 tools/console_capture.py print <"$out/random.bin" >"$out/random.txt"
+    compare "$out/random.bin" "$out/random.txt"
+    lines=$((lines + $(wc -l <"$out/random.txt")))
+    seed=$((seed + 1))
+done
+echo "$captures random captures: $lines lines, the same from C, Rust and Python"
