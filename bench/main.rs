@@ -1,6 +1,13 @@
-//! Compares the proved payload walker with one in ordinary Rust, in its answers and in its time.
+//! Compares the proved payload walker, frame reader and frame writer with ones in ordinary Rust, in their answers and in
+//! their time.
 
+mod c_api;
 mod compare;
+mod frame_compare;
+mod frame_reader;
+mod frame_shapes;
+mod frame_time;
+mod frame_writer;
 mod random;
 mod shapes;
 mod time;
@@ -31,8 +38,14 @@ fn main() {
     }
     for mode in modes {
         match mode.as_str() {
-            "compare" => compare::run(),
-            "time" => time::run(),
+            "compare" => {
+                compare::run();
+                frame_compare::run();
+            }
+            "time" => {
+                time::run();
+                frame_time::run();
+            }
             _ => {
                 eprintln!("usage: bench.sh [compare] [time]");
                 std::process::exit(2);

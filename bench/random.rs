@@ -164,7 +164,7 @@ fn many_keys(random: &mut Random, out: &mut Vec<u8>) {
 }
 
 /// A value with at most so many levels: nearly always a good one.
-fn value(random: &mut Random, levels: usize, out: &mut Vec<u8>) {
+pub fn value(random: &mut Random, levels: usize, out: &mut Vec<u8>) {
     match random.below(if levels == 0 { 2 } else { 5 }) {
         0 => integer(random, out),
         1 => string(random, out),

@@ -3,7 +3,12 @@
 use crate::random::Random;
 
 /// `open`, as many items as fit, and `close`: at most `size` bytes.
-fn fill(size: usize, open: &str, close: &str, mut item: impl FnMut(usize) -> String) -> Vec<u8> {
+pub fn fill(
+    size: usize,
+    open: &str,
+    close: &str,
+    mut item: impl FnMut(usize) -> String,
+) -> Vec<u8> {
     let mut out = open.as_bytes().to_vec();
     for i in 0.. {
         let next = item(i);

@@ -23,10 +23,7 @@ const SHAPES: [(&str, Shape); 5] = [
 ];
 
 pub fn run() {
-    println!(
-        "{:36} {:>6} {:>11} {:>11} {:>9}",
-        "payload", "bytes", "proved us", "Rust us", "ratio"
-    );
+    print_title("payload");
     for (name, shape) in SHAPES {
         for kib in [1, 4, 16, 32] {
             line(name, &shape(kib * 1024));
@@ -48,24 +45,33 @@ fn line(name: &str, payload: &[u8]) {
         (0, payload.len()),
         "{name} is not accepted"
     );
-    let (proved, rust) = measure(payload);
-    let ratio = proved / rust;
-    println!(
-        "{name:36} {:6} {proved:11.2} {rust:11.2} {ratio:9.2}",
-        payload.len()
-    );
-}
-
-/// The medians of both in microseconds; the samples of the two alternate.
-fn measure(payload: &[u8]) -> (f64, f64) {
-    let mut proved = || {
+    let proved = || {
         let bytes = black_box(payload);
         // SAFETY: the pointer and the length are those of one slice.
         black_box(unsafe { payload_code(bytes.as_ptr(), bytes.len(), black_box(false)) });
     };
-    let mut rust = || {
+    let rust = || {
         black_box(walker::walk(black_box(payload), black_box(false)));
     };
+    print_ratio(name, payload.len(), proved, rust);
+}
+
+pub fn print_title(what: &str) {
+    println!(
+        "{what:36} {:>6} {:>11} {:>11} {:>9}",
+        "bytes", "proved us", "Rust us", "ratio"
+    );
+}
+
+/// Measures both and prints their times in microseconds, with the ratio.
+pub fn print_ratio(name: &str, bytes: usize, proved: impl FnMut(), rust: impl FnMut()) {
+    let (proved, rust) = measure(proved, rust);
+    let ratio = proved / rust;
+    println!("{name:36} {bytes:6} {proved:11.2} {rust:11.2} {ratio:9.2}");
+}
+
+/// The medians of both in microseconds; the samples of the two alternate.
+fn measure(mut proved: impl FnMut(), mut rust: impl FnMut()) -> (f64, f64) {
     let (proved_calls, rust_calls) = (calls(&mut proved), calls(&mut rust));
     let (mut proved_times, mut rust_times) = (Vec::new(), Vec::new());
     let start = Instant::now();
