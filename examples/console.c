@@ -11,9 +11,11 @@
 
 /* Indexed by number; the name of an unlisted key stands in its frame. */
 static const char *const KEYS[] = {
-    "",          "automap",        "autostart",   "bad-format", "directory", "downlimit",     "failed",
-    "get-downlimit", "get-status-all", "get-uplimit", "info",   "noop",      "not-supported", "pex",
-    "port",      "remove",         "start",       "status",     "stop",      "succeeded",     "uplimit"};
+    "",
+    "automap", "autostart", "bad-format", "directory", "downlimit",
+    "failed", "get-downlimit", "get-status-all", "get-uplimit", "info",
+    "noop", "not-supported", "pex", "port", "remove",
+    "start", "status", "stop", "succeeded", "uplimit"};
 
 static struct {
     uint8_t bytes[2 * BOGSILVER_LARGEST_FRAME];
