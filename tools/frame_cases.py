@@ -15,10 +15,11 @@ import struct
 import sys
 
 sys.dont_write_bytecode = True
+from chance import Chance  # noqa: E402
 from frame_oracle import (  # noqa: E402
     FAULT, MAX_PAYLOAD, TABLE, line, read, write)
 from payload_cases import (  # noqa: E402
-    BETWEEN, EXAMPLES, FAULTY, FRAMES, REPLACEMENTS, SCOPE, SOUND, Chance,
+    BETWEEN, EXAMPLES, FAULTY, FRAMES, REPLACEMENTS, SCOPE, SOUND,
     dictionary, integer, listing, mutated, nested, random_text, random_value,
     string)
 

@@ -14,33 +14,12 @@ import struct
 import sys
 
 sys.dont_write_bytecode = True
+from chance import Chance  # noqa: E402
 from payload_oracle import walk  # noqa: E402
 
 FOLDER = pathlib.Path(__file__).resolve().parent.parent / "crates/payload_cases"
 MAX_BODY = 131072
 SIZE_LIMIT = 1500000
-
-
-class Chance:
-    """A xorshift generator, so that no Python version changes the files."""
-
-    def __init__(self, seed):
-        self.state = seed
-
-    def below(self, n):
-        x = self.state
-        x ^= x << 13 & 2**64 - 1
-        x ^= x >> 7
-        x ^= x << 17 & 2**64 - 1
-        self.state = x
-        return x % n
-
-    def pick(self, items):
-        return items[self.below(len(items))]
-
-    def shuffled(self, items):
-        left = list(items)
-        return [left.pop(self.below(len(left))) for _ in items]
 
 
 # Encoders. They write what they are told, in that order, sound or not.

@@ -21,6 +21,7 @@ import sys
 
 sys.dont_write_bytecode = True
 import strip_oracle  # noqa: E402
+from chance import Chance  # noqa: E402
 
 SIZE_LIMIT = 700000
 LEAST_CASES = 600
@@ -30,27 +31,6 @@ LARGEST = 2147483647
 EDGE_LIMITS = (-1, 0, 1000000, -2, 1000001, -2**31, 2**31 - 1)
 EDGE_IDS = (0, 1, LARGEST, LARGEST + 1, 2**32 - 1)
 OFF_LIMITS = (-2, 1000001, -2**31, 2**31 - 1)
-
-
-class Chance:
-    """A xorshift generator, so that no Python version changes the files."""
-
-    def __init__(self, seed):
-        self.state = seed
-
-    def below(self, n):
-        x = self.state
-        x ^= x << 13 & 2**64 - 1
-        x ^= x >> 7
-        x ^= x << 17 & 2**64 - 1
-        self.state = x
-        return x % n
-
-    def pick(self, items):
-        return items[self.below(len(items))]
-
-    def text(self, size):
-        return bytes(self.below(256) for _ in range(size))
 
 
 # Records. They are written as told, sound or not.
