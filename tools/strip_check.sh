@@ -98,10 +98,11 @@ same "a long strip" "$folder/err" "$folder/want"
 printf 'clear\nlimits 1 2\n' | tools/strip encode --loose >"$folder/out"
 test "$(wc -c <"$folder/out")" -eq 10
 
-# All cases, and the same files twice.
+# All cases, made again: they are the stored ones.
 tools/strip_cases.py --check
 tools/strip_cases.py "$folder/stdin" "$folder/stdout"
-tools/strip_cases.py "$folder/stdin2" "$folder/stdout2" >"$folder/out"
-same "cases made twice" "$folder/stdin" "$folder/stdin2"
-same "lines made twice" "$folder/stdout" "$folder/stdout2"
+same "the stored cases" "$folder/stdin" crates/strip_cases/stdin
+same "the stored lines" "$folder/stdout" crates/strip_cases/stdout
+same "the program's strip" examples/sample.strip crates/override_desk/stdin
+same "the program's lines" "$folder/listing" crates/override_desk/stdout
 echo "strip check: all well"

@@ -3,3 +3,4 @@ pub mod Record
 pub mod Gather
 pub mod Perform
 pub mod Line
+pub mod Demands

@@ -7,9 +7,9 @@ fn run_case(head: &mut [u8; 5], body: &mut [u8]) -> bool {
             if operation != b's' {
                 return cases::answered(false);
             }
-            strip_run::run_strip(&body[..length]);
+            let printed = strip_run::run_strip(&body[..length]);
             cases::print(b".\n");
-            true
+            printed
         }
         Case::End => false,
     }

@@ -17,30 +17,46 @@ use strip::record::Record;
 use strip::record::call_kind;
 use strip::record::record_at;
 
-// Where a run is: what it read before the first call, and from there on the desk.
+// Where a run is: what it read before the first call, and from there on the desk. It is over too once a line is not printed.
 pub struct Run {
     pub at: usize,
     pub called: bool,
     pub over: bool,
+    pub failed: bool,
     pub down: i32,
     pub up: i32,
     pub gathered: Gathered,
     pub desk: Desk,
 }
 
-fn print(text: &[u8]) {
-    io::write_all(STDOUT_FILENO, text);
+// A turn for each byte of the longest strip, and for its end.
+const TURNS: usize = strip::record::LONGEST + 1;
+
+fn print(text: &[u8]) -> bool {
+    io::write_all(STDOUT_FILENO, text)
 }
 
-fn print_front(text: &[u8], n: usize) {
+fn print_front(text: &[u8], n: usize) -> bool {
     if n <= text.len() {
-        print(&text[..n]);
+        return print(&text[..n]);
     }
+    false
 }
 
-fn print_line(line: Line) {
+fn print_line(line: Line) -> bool {
     let bytes = line.bytes;
-    print_front(&bytes, line.length);
+    print_front(&bytes, line.length)
+}
+
+// The bytes that a call wrote, on a line; no line where it wrote none.
+fn print_frames(out: &[u8], count: usize) -> bool {
+    if count == 0 {
+        return true;
+    }
+    if print_front(out, count) {
+        return print(b"\n");
+    }
+    false
 }
 
 // Nothing is read yet, and the desk is closed.
@@ -53,6 +69,7 @@ fn begun() -> Run {
         at: 0,
         called: false,
         over: false,
+        failed: false,
         down: 0,
         up: 0,
         gathered,
@@ -67,6 +84,7 @@ fn with_desk(run: Run, desk: Desk) -> Run {
         at: run.at,
         called: run.called,
         over: run.over,
+        failed: run.failed,
         down: run.down,
         up: run.up,
         gathered,
@@ -82,6 +100,7 @@ fn with_watch(run: Run, id: u32, running: bool) -> Run {
         at: run.at,
         called: run.called,
         over: run.over,
+        failed: run.failed,
         down: run.down,
         up: run.up,
         gathered,
@@ -102,6 +121,17 @@ fn ended(run: Run) -> Run {
     next
 }
 
+// The run goes on if a line is printed.
+fn after_line(run: Run, printed: bool) -> Run {
+    if printed {
+        return run;
+    }
+    let mut next = run;
+    next.over = true;
+    next.failed = true;
+    next
+}
+
 // Opens the desk, once; a refusal ends the run.
 fn open_once(run: Run) -> Run {
     if run.called {
@@ -111,12 +141,11 @@ fn open_once(run: Run) -> Run {
     let watch = gathered.watch;
     let opened = open_records(watch, gathered.count, run.down, run.up);
     let code = opened.code;
-    print_line(open_line(code));
     let desk = opened.desk;
     let mut next = with_desk(run, desk);
     next.called = true;
     next.over = code != 0;
-    next
+    after_line(next, print_line(open_line(code)))
 }
 
 // Makes a call: its line, and the bytes it wrote on the next.
@@ -124,13 +153,12 @@ fn make_call(run: Run, call: Call, out: &mut [u8]) -> Run {
     let desk = run.desk;
     let done = perform(desk, call, out);
     let count = done.count;
-    print_line(call_line(call_kind(call), done.code, count));
-    if 0 < count {
-        print_front(out, count);
-        print(b"\n");
-    }
     let desk = done.desk;
-    with_desk(run, desk)
+    let next = with_desk(run, desk);
+    if print_line(call_line(call_kind(call), done.code, count)) {
+        return after_line(next, print_frames(out, count));
+    }
+    after_line(next, false)
 }
 
 // A call, on the desk once it is open.
@@ -144,8 +172,8 @@ fn take_call(run: Run, call: Call, out: &mut [u8]) -> Run {
 
 // A fault is the last that is printed.
 fn take_fault(run: Run, offset: usize) -> Run {
-    print_line(fault_line(offset));
-    ended(run)
+    let printed = print_line(fault_line(offset));
+    after_line(ended(run), printed)
 }
 
 // Goes on after a record.
@@ -161,19 +189,21 @@ fn take_record(run: Run, found: Record, offset: usize, out: &mut [u8]) -> Run {
     }
 }
 
-// Runs a strip. The number of turns is bounded so that it is seen to end; a record has a byte at least, so no strip has so many.
-pub fn run_strip(s: &[u8]) {
+// Runs a strip, and says whether all was printed. The number of turns is bounded so that it is seen to end; a record has a byte at
+// least, so no strip has so many.
+pub fn run_strip(s: &[u8]) -> bool {
     let mut space = [0u8; LONGEST];
     let out: &mut [u8] = &mut space;
     let mut run = begun();
-    let mut left: u32 = 20000;
+    let mut left = TURNS;
     while 0 < left {
         left -= 1;
         if run.over {
-            return;
+            return !run.failed;
         }
         let decoded = record_at(s, run.at, run.called);
         let found = decoded.found;
         run = take_record(run, found, decoded.offset, out);
     }
+    false
 }

@@ -1,0 +1,21 @@
+-- What is proved of strips as a whole. Each statement is a type; its proof stands in proofs/ under the same name in lower case.
+-- Assumes nothing.
+use Prim.Native.Nat.{ℕ}
+use mathlib.Core.Path.{_≡_}
+use mathlib.Core.Bool.{Bool}
+use mathlib.Core.List.{List}
+use Rattle.bencode.specs.Bytes.{byteAt}
+use Rattle.strip.specs.declared.record.Record.{Record}
+use Rattle.strip.specs.Record.{callKind, recordAt}
+
+-- document 01's number of a record; a fault and the end have none
+abbrev pub HasKind : Record → ℕ → Type 0
+HasKind (Record.Limits d u) k = k ≡ 0
+HasKind (Record.Watch x m) k = k ≡ 7
+HasKind (Record.Call c) k = k ≡ callKind c
+HasKind Record.Fault k = Unit {0}
+HasKind Record.End k = Unit {0}
+
+-- a record is of the kind that its first byte says
+abbrev pub KindNamed : Type 0
+KindNamed = (s : List ℕ) (at : ℕ) (called : Bool) → HasKind (recordAt s at called .found) (byteAt s at)
