@@ -2,7 +2,7 @@
  * Bogsilver for C: reads and writes frames of Transmission's IPC protocol, version 2.
  *
  * Link with libc_api.a (`rt staticlib c_api`, x86-64 Linux). The functions allocate nothing, keep nothing between calls
- * and end on every input. They are proved to answer as the rules say; the C compiler and what follows is the caller's:
+ * and end on every input. They are proved to answer as the rules say. The caller sees to this:
  * - bytes and out are never NULL, even where the length is 0, and have the length that is handed in, at most PTRDIFF_MAX;
  * - out does not overlap bytes, and nothing else writes to either during the call.
  */
@@ -69,29 +69,29 @@ enum {
 /* Kinds of value for bogsilver_write; any other number is refused by 41. */
 enum { BOGSILVER_GIVEN_NOTHING = 0, BOGSILVER_GIVEN_INTEGER = 1, BOGSILVER_GIVEN_BYTES = 2 };
 
-/* Numbers of the keys. */
+/* Numbers of the keys, and the format of each one's value. Where it is ignored, an answer names nothing and nothing is handed in. */
 enum {
-    BOGSILVER_UNLISTED = 0,
-    BOGSILVER_AUTOMAP = 1,
-    BOGSILVER_AUTOSTART = 2,
-    BOGSILVER_BAD_FORMAT = 3,
-    BOGSILVER_DIRECTORY = 4,
-    BOGSILVER_DOWNLIMIT = 5,
-    BOGSILVER_FAILED = 6,
-    BOGSILVER_GET_DOWNLIMIT = 7,
-    BOGSILVER_GET_STATUS_ALL = 8, /* read, not written */
-    BOGSILVER_GET_UPLIMIT = 9,
-    BOGSILVER_INFO = 10,          /* read, not written */
-    BOGSILVER_NOOP = 11,
-    BOGSILVER_NOT_SUPPORTED = 12,
-    BOGSILVER_PEX = 13,
-    BOGSILVER_PORT = 14,
-    BOGSILVER_REMOVE = 15,
-    BOGSILVER_START = 16,
-    BOGSILVER_STATUS = 17,        /* read, not written */
-    BOGSILVER_STOP = 18,
-    BOGSILVER_SUCCEEDED = 19,
-    BOGSILVER_UPLIMIT = 20
+    BOGSILVER_UNLISTED = 0,       /* any value, as it is encoded; the key itself is the string at offset 9 of the frame */
+    BOGSILVER_AUTOMAP = 1,        /* integer 0 or 1 */
+    BOGSILVER_AUTOSTART = 2,      /* integer 0 or 1 */
+    BOGSILVER_BAD_FORMAT = 3,     /* ignored */
+    BOGSILVER_DIRECTORY = 4,      /* text */
+    BOGSILVER_DOWNLIMIT = 5,      /* integer */
+    BOGSILVER_FAILED = 6,         /* text */
+    BOGSILVER_GET_DOWNLIMIT = 7,  /* ignored */
+    BOGSILVER_GET_STATUS_ALL = 8, /* list of strings; read, not written */
+    BOGSILVER_GET_UPLIMIT = 9,    /* ignored */
+    BOGSILVER_INFO = 10,          /* list of torrents; read, not written */
+    BOGSILVER_NOOP = 11,          /* ignored */
+    BOGSILVER_NOT_SUPPORTED = 12, /* ignored */
+    BOGSILVER_PEX = 13,           /* integer 0 or 1 */
+    BOGSILVER_PORT = 14,          /* integer 0 to 65535 */
+    BOGSILVER_REMOVE = 15,        /* list of torrent IDs, as it is encoded: `li3ei8ee` */
+    BOGSILVER_START = 16,         /* list of torrent IDs */
+    BOGSILVER_STATUS = 17,        /* list of torrents; read, not written */
+    BOGSILVER_STOP = 18,          /* list of torrent IDs */
+    BOGSILVER_SUCCEEDED = 19,     /* ignored */
+    BOGSILVER_UPLIMIT = 20        /* integer */
 };
 
 /* The value of an answer. What the kind does not name is 0. */
@@ -107,7 +107,7 @@ struct bogsilver_content {
 /* The reader's answer. What it does not name is 0. */
 struct bogsilver_answer {
     uint8_t code;
-    uint8_t kind;
+    uint8_t kind;    /* also for code 22, which is of a message */
     uint8_t key;     /* also for code 22 */
     uint32_t tag;    /* 0: none; also for code 22 */
     size_t offset;   /* of the fault: for code 2 in the header, for 5 to 9 from the payload's start */
@@ -121,7 +121,11 @@ struct bogsilver_write_answer {
     size_t count;
 };
 
-/* Reads the frame at the front of the bytes. Bytes after it are left for the next read. */
+/*
+ * Reads the frame at the front of the bytes. Bytes after it are left for the next read. A refusal consumes nothing: after 1 call
+ * again with more bytes; after 4 to 22 the next frame starts BOGSILVER_HEADER_LENGTH and the header's number of bytes further;
+ * after 2 and 3 no next frame can be found.
+ */
 struct bogsilver_answer bogsilver_read(const uint8_t *bytes, size_t length);
 
 /*

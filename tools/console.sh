@@ -1,9 +1,18 @@
 #!/bin/sh
 # Builds the consoles of examples/console.c and bench/console.rs over the static library, and compares what they print
-# with the lines of tools/console_capture.py: for the stored capture and for random ones.
+# with the lines of tools/console_capture.py: for the stored capture and for random ones. Answers the stored cases of
+# frame_cases from C too, through all four functions.
 # Usage: tools/console.sh [CAPTURES]; 200 random captures unless told otherwise.
 set -eu
 cd "$(dirname "$0")/.."
+
+captures=${1:-200}
+case $captures in
+*[!0-9]*)
+    echo "usage: tools/console.sh [CAPTURES]" >&2
+    exit 2
+    ;;
+esac
 
 out=target/console
 mkdir -p "$out"
@@ -14,6 +23,13 @@ rt staticlib c_api >"$out/staticlib.log" 2>&1 || {
 gcc -std=c99 -pedantic -Wall -Wextra -Werror -O2 -Iinclude examples/console.c target/staticlib/libc_api.a -o "$out/console_c"
 rustc --edition 2021 -C opt-level=3 -D warnings --crate-name console bench/console.rs \
     -C link-arg=target/staticlib/libc_api.a -o "$out/console_rust"
+
+gcc -std=c99 -pedantic -Wall -Wextra -Werror -O2 -fsanitize=address,undefined -Iinclude tools/frame_cases.c \
+    target/staticlib/libc_api.a -o "$out/frame_cases_c"
+
+"$out/frame_cases_c" <crates/frame_cases/stdin >"$out/frame_cases.txt"
+cmp "$out/frame_cases.txt" crates/frame_cases/stdout
+echo "stored cases of frame_cases: the same from C"
 
 # compare CAPTURE LINES: both consoles print the lines.
 compare() {
@@ -33,7 +49,6 @@ cmp "$out/capture.txt" examples/capture.txt
 compare examples/capture.bin examples/capture.txt
 echo "stored capture: $(wc -l <examples/capture.txt) lines, the same from C, Rust and Python"
 
-captures=${1:-200}
 lines=0
 seed=0
 while [ "$seed" -lt "$captures" ]; do

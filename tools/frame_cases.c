@@ -1,0 +1,114 @@
+/*
+ * Answers the stream of cases of frame_cases through include/bogsilver.h: `r` read, `w` write, `s` handshake, `a` agreed
+ * version, a line each. Before each write the buffer is filled with a pattern, and a byte that should have stayed and did
+ * not is said in the line.
+ */
+#include "bogsilver.h"
+
+#include <inttypes.h>
+#include <stdio.h>
+
+#define LARGEST_BODY 131072
+#define FILL 0xA5
+
+static uint8_t body[LARGEST_BODY];
+static uint8_t out[LARGEST_BODY];
+
+static uint32_t number_at(size_t at)
+{
+    return body[at] | (uint32_t)body[at + 1] << 8 | (uint32_t)body[at + 2] << 16 | (uint32_t)body[at + 3] << 24;
+}
+
+static void print_value(const struct bogsilver_content *value)
+{
+    switch (value->kind) {
+    case BOGSILVER_NOTHING: printf("-"); break;
+    case BOGSILVER_INTEGER: printf("i%" PRId64, value->integer); break;
+    case BOGSILVER_TEXT: printf("t%zu,%zu", value->start, value->length); break;
+    case BOGSILVER_PART: printf("p%zu,%zu", value->start, value->length); break;
+    case BOGSILVER_VERSIONS: printf("h%" PRIu32 ",%" PRIu32, value->min, value->max); break;
+    default: printf("unknown value"); break;
+    }
+}
+
+static void print_reading(size_t length)
+{
+    struct bogsilver_answer a = bogsilver_read(body, length);
+    const char *kind = a.kind == BOGSILVER_MESSAGE ? "m" : a.kind == BOGSILVER_HANDSHAKE ? "h" : "-";
+    printf("%u %zu %zu %s %u %" PRIu32 " ", a.code, a.offset, a.consumed, kind, a.key, a.tag);
+    print_value(&a.value);
+    printf("\n");
+}
+
+static void fill(size_t room)
+{
+    for (size_t i = 0; i < room; i++)
+        out[i] = FILL;
+}
+
+static void print_written(struct bogsilver_write_answer w, size_t room)
+{
+    printf("%u %zu", w.code, w.count);
+    if (w.count > 0)
+        printf(" ");
+    for (size_t i = 0; i < w.count; i++)
+        printf("%02x", out[i]);
+    for (size_t i = w.count; i < room; i++)
+        if (out[i] != FILL) {
+            printf(" byte %zu changed", i);
+            break;
+        }
+    printf("\n");
+}
+
+static int print_message(size_t length)
+{
+    if (length < 21 || number_at(17) > sizeof out)
+        return 0;
+    uint64_t integer = number_at(5) | (uint64_t)number_at(9) << 32;
+    size_t room = number_at(17);
+    fill(room);
+    print_written(bogsilver_write(number_at(0), body[4], (int64_t)integer, body + 21, length - 21, number_at(13), out, room),
+                  room);
+    return 1;
+}
+
+static int print_handshake(size_t length)
+{
+    if (length != 12 || number_at(8) > sizeof out)
+        return 0;
+    size_t room = number_at(8);
+    fill(room);
+    print_written(bogsilver_write_handshake(number_at(0), number_at(4), out, room), room);
+    return 1;
+}
+
+static int answer(int operation, size_t length)
+{
+    switch (operation) {
+    case 'r': print_reading(length); return 1;
+    case 'w': return print_message(length);
+    case 's': return print_handshake(length);
+    case 'a':
+        if (length != 16)
+            return 0;
+        printf("%" PRIu32 "\n", bogsilver_agreed_version(number_at(0), number_at(4), number_at(8), number_at(12)));
+        return 1;
+    default: return 0;
+    }
+}
+
+int main(void)
+{
+    for (;;) {
+        uint8_t head[5];
+        size_t got = fread(head, 1, sizeof head, stdin);
+        if (got == 0)
+            return 0;
+        size_t length = head[1] | (size_t)head[2] << 8 | (size_t)head[3] << 16 | (size_t)head[4] << 24;
+        if (got < sizeof head || length > sizeof body || fread(body, 1, length, stdin) != length || !answer(head[0], length)) {
+            printf("case fault\n");
+            return 0;
+        }
+    }
+}
