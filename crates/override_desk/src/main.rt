@@ -6,10 +6,10 @@ use strip::record::LONGEST;
 // One byte more than a strip may have, so that a longer one is seen to be too long.
 const ROOM: usize = LONGEST + 1;
 
-// Did reading end by a failure. Past the input's end a read answers 0.
+// Did reading stop before the input's end, where a read answers 0. A failure may be over by now, and a byte be there.
 fn read_failed() -> bool {
     let mut one = [0u8; 1];
-    libc::read(STDIN_FILENO, &mut one) < 0
+    libc::read(STDIN_FILENO, &mut one) != 0
 }
 
 fn complain(text: &[u8]) {
