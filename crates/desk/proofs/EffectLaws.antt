@@ -17,7 +17,8 @@ use Rattle.desk.specs.Limit.{isLimit}
 use Rattle.desk.specs.Watch.{has}
 use Rattle.desk.specs.Record.{watched, sound, withOverride}
 use Rattle.desk.specs.Command.{Command, commandFrame, framesOf}
-use Rattle.desk.specs.Call.{Call, refused, sent, asked, limitCall, runningCall, raiseCommands, clearCommands, raiseCall, clearCall, outcome}
+use Rattle.desk.specs.declared.calls.Call.{Call}
+use Rattle.desk.specs.Call.{refused, sent, asked, limitCall, runningCall, raiseCommands, clearCommands, raiseCall, clearCall, outcome}
 use Rattle.desk.specs.Effect.{Effect, effect, returned, bufferAfter, Returned, refusal, delivered, requested, limitRequested, runningRequested}
 
 -- ---- by bytes
@@ -118,31 +119,31 @@ module _ (room : ℕ) (d : Desk) where
     running-asks s t = rw (s, t) refl
 
   module _ (x : ℕ) where
-    pub raise-38 : sound d ≡ false → effect (outcome (Call.raise x) room d) ≡ refusal 38 d
+    pub raise-38 : sound d ≡ false → effect (outcome (Call.Raise x) room d) ≡ refusal 38 d
     unfolding outcome raiseCall effect framesOf
     raise-38 s = rw s refl
 
-    pub raise-32 : sound d ≡ true → (d .«override_id» ≡ 0 → ⊥) → effect (outcome (Call.raise x) room d) ≡ refusal 32 d
+    pub raise-32 : sound d ≡ true → (d .«override_id» ≡ 0 → ⊥) → effect (outcome (Call.Raise x) room d) ≡ refusal 32 d
     unfolding outcome raiseCall effect framesOf
     raise-32 s h = rw (s, ne-eqb (d .«override_id») 0 h) refl
 
     module _ (s : sound d ≡ true) (none : d .«override_id» ≡ 0) where
-      pub raise-31 : has x (watched d) ≡ false → effect (outcome (Call.raise x) room d) ≡ refusal 31 d
+      pub raise-31 : has x (watched d) ≡ false → effect (outcome (Call.Raise x) room d) ≡ refusal 31 d
       unfolding outcome raiseCall effect framesOf
       raise-31 t = rw (s, eq-eqb (d .«override_id») 0 none, t) refl
 
-      pub raise-sends : has x (watched d) ≡ true → effect (outcome (Call.raise x) room d) ≡ delivered room d (withOverride x d) (framesOf (raiseCommands x d))
+      pub raise-sends : has x (watched d) ≡ true → effect (outcome (Call.Raise x) room d) ≡ delivered room d (withOverride x d) (framesOf (raiseCommands x d))
       unfolding outcome raiseCall
       raise-sends t = rw (s, eq-eqb (d .«override_id») 0 none, t) (effect-sent room d (withOverride x d) (raiseCommands x d))
 
-  pub clear-38 : sound d ≡ false → effect (outcome Call.clear room d) ≡ refusal 38 d
+  pub clear-38 : sound d ≡ false → effect (outcome Call.Clear room d) ≡ refusal 38 d
   unfolding outcome clearCall effect framesOf
   clear-38 s = rw s refl
 
-  pub clear-33 : sound d ≡ true → d .«override_id» ≡ 0 → effect (outcome Call.clear room d) ≡ refusal 33 d
+  pub clear-33 : sound d ≡ true → d .«override_id» ≡ 0 → effect (outcome Call.Clear room d) ≡ refusal 33 d
   unfolding outcome clearCall effect framesOf
   clear-33 s none = rw (s, eq-eqb (d .«override_id») 0 none) refl
 
-  pub clear-sends : sound d ≡ true → (d .«override_id» ≡ 0 → ⊥) → effect (outcome Call.clear room d) ≡ delivered room d (withOverride 0 d) (framesOf (clearCommands d))
+  pub clear-sends : sound d ≡ true → (d .«override_id» ≡ 0 → ⊥) → effect (outcome Call.Clear room d) ≡ delivered room d (withOverride 0 d) (framesOf (clearCommands d))
   unfolding outcome clearCall
   clear-sends s h = rw (s, ne-eqb (d .«override_id») 0 h) (effect-sent room d (withOverride 0 d) (clearCommands d))

@@ -1,5 +1,4 @@
-pub mod Calls
-pub mod Lending
+pub mod WalkedCall
 pub mod Cases
 pub mod Places
 pub mod Scans

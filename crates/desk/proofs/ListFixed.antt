@@ -14,7 +14,8 @@ use Rattle.desk.specs.Limit.{isLimit}
 use Rattle.desk.specs.Watch.{has, place}
 use Rattle.desk.specs.Record.{watched, sound, withDown, withUp, withOverride, withRunning}
 use Rattle.desk.specs.Command.{Command, framesOf}
-use Rattle.desk.specs.Call.{Call, Outcome, outcome, refused, sent, asked, limitCall, runningCall, raiseCall, clearCall, raiseCommands, clearCommands}
+use Rattle.desk.specs.declared.calls.Call.{Call}
+use Rattle.desk.specs.Call.{Outcome, outcome, refused, sent, asked, limitCall, runningCall, raiseCall, clearCall, raiseCommands, clearCommands}
 use Rattle.desk.specs.Demands.{ListFixed}
 use Rattle.desk.proofs.Cases.{by-cases, cond-cases}
 use Rattle.desk.proofs.WatchLists.{entry}
@@ -71,11 +72,11 @@ module _ (room : ℕ) (d : Desk) where
 
 pub list-fixed : ListFixed
 unfolding outcome raiseCall clearCall withDown withUp withOverride
-list-fixed (Call.down n) room d = limit-fixed room d n (withDown n d) (Command.setDown n) (refl, refl)
-list-fixed (Call.up n) room d = limit-fixed room d n (withUp n d) (Command.setUp n) (refl, refl)
-list-fixed (Call.start x) room d = running-fixed room d x true (Command.start (x ∷ []))
-list-fixed (Call.stop x) room d = running-fixed room d x false (Command.stop (x ∷ []))
-list-fixed (Call.raise x) room d =
+list-fixed (Call.Down n) room d = limit-fixed room d n (withDown n d) (Command.setDown n) (refl, refl)
+list-fixed (Call.Up n) room d = limit-fixed room d n (withUp n d) (Command.setUp n) (refl, refl)
+list-fixed (Call.Start x) room d = running-fixed room d x true (Command.start (x ∷ []))
+list-fixed (Call.Stop x) room d = running-fixed room d x false (Command.stop (x ∷ []))
+list-fixed (Call.Raise x) room d =
     let K = KeepsList room d in
     cond-cases K (sound d)
     (λ _.
@@ -83,7 +84,7 @@ list-fixed (Call.raise x) room d =
     (λ _. cond-cases K (has x (watched d)) (λ _. sent-fixed room d (withOverride x d) (raiseCommands x d) (refl, refl)) (λ _. refused-fixed room d 31))
     (λ _. refused-fixed room d 32))
     (λ _. refused-fixed room d 38)
-list-fixed Call.clear room d =
+list-fixed Call.Clear room d =
     let K = KeepsList room d in
     cond-cases K (sound d)
     (λ _. cond-cases K (eqb (d .«override_id») 0) (λ _. refused-fixed room d 33) (λ _. sent-fixed room d (withOverride 0 d) (clearCommands d) (refl, refl)))

@@ -22,7 +22,8 @@ use Rattle.desk.specs.Watch.{isId, has, fault, places, unused, filtered}
 use Rattle.desk.specs.Record.{watched, limitsSound, listSound, sound, openedWith, withOverride}
 use Rattle.desk.specs.Opening.{openCode, opening}
 use Rattle.desk.specs.Command.{Command, downlimitKey, startKey, stopKey, uplimitKey, values, idList, messageFrame, commandFrame, framesOf, listing, longest}
-use Rattle.desk.specs.Call.{Call, Outcome, refused, sent, asked, limitCall, runningCall, raiseCall, clearCall, raiseCommands, clearCommands, outcome}
+use Rattle.desk.specs.declared.calls.Call.{Call}
+use Rattle.desk.specs.Call.{Outcome, refused, sent, asked, limitCall, runningCall, raiseCall, clearCall, raiseCommands, clearCommands, outcome}
 use Rattle.desk.specs.Effect.{effect}
 use Rattle.desk.specs.Demands.{NoLonger, LongestReached}
 use Rattle.desk.proofs.Cases.{cond-cases}
@@ -83,12 +84,12 @@ module _ (room : ℕ) (d : Desk) where
 
 pub no-longer : NoLonger
 unfolding effect outcome commandFrame
-no-longer (Call.down n) room d = limit-short room d n _ (Command.setDown n) (limit-room downlimitKey n (inl refl))
-no-longer (Call.up n) room d = limit-short room d n _ (Command.setUp n) (limit-room uplimitKey n (inr refl))
-no-longer (Call.start x) room d = running-short room d x _ (Command.start (x ∷ [])) (one-room startKey x (inl refl))
-no-longer (Call.stop x) room d = running-short room d x _ (Command.stop (x ∷ [])) (one-room stopKey x (inr refl))
-no-longer (Call.raise x) room d = raise-short room d x
-no-longer Call.clear room d = clear-short room d
+no-longer (Call.Down n) room d = limit-short room d n _ (Command.setDown n) (limit-room downlimitKey n (inl refl))
+no-longer (Call.Up n) room d = limit-short room d n _ (Command.setUp n) (limit-room uplimitKey n (inr refl))
+no-longer (Call.Start x) room d = running-short room d x _ (Command.start (x ∷ [])) (one-room startKey x (inl refl))
+no-longer (Call.Stop x) room d = running-short room d x _ (Command.stop (x ∷ [])) (one-room stopKey x (inr refl))
+no-longer (Call.Raise x) room d = raise-short room d x
+no-longer Call.Clear room d = clear-short room d
 
 -- ---- a run whose clear is the longest: an opening with 32 of the largest IDs, of both marks, and both limits the largest, then a raise
 unfoldable countdown : ℕ → ℕ → List Watch

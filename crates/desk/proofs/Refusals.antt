@@ -14,7 +14,8 @@ use Rattle.desk.specs.Watch.{has}
 use Rattle.desk.specs.Record.{watched, sound, closed, openedWith, withDown, withUp, withOverride, withRunning}
 use Rattle.desk.specs.Opening.{openCode, refusedOpening, opening}
 use Rattle.desk.specs.Command.{Command, framesOf}
-use Rattle.desk.specs.Call.{Call, Outcome, outcome, refused, sent, asked, limitCall, runningCall, raiseCall, clearCall, raiseCommands, clearCommands}
+use Rattle.desk.specs.declared.calls.Call.{Call}
+use Rattle.desk.specs.Call.{Outcome, outcome, refused, sent, asked, limitCall, runningCall, raiseCall, clearCall, raiseCommands, clearCommands}
 use Rattle.desk.specs.Effect.{effect, returned, bufferAfter}
 use Rattle.desk.specs.Demands.{overrideAfter, standingAfter, RefusalKeeps, RefusalCloses, OverrideMoves}
 use Rattle.desk.proofs.Cases.{by-cases, cond-cases}
@@ -63,24 +64,24 @@ module _ (c : Call) (room : ℕ) (d : Desk) where
 
 outcome-kept : (c : Call) (room : ℕ) (d : Desk) → Kept c room d (outcome c room d)
 unfolding outcome raiseCall clearCall overrideAfter withDown withUp withRunning withOverride
-outcome-kept (Call.down n) room d = limit-kept (Call.down n) room d n (withDown n d) (Command.setDown n) refl refl
-outcome-kept (Call.up n) room d = limit-kept (Call.up n) room d n (withUp n d) (Command.setUp n) refl refl
-outcome-kept (Call.start x) room d = running-kept (Call.start x) room d x (withRunning x true d) (Command.start (x ∷ [])) refl refl
-outcome-kept (Call.stop x) room d = running-kept (Call.stop x) room d x (withRunning x false d) (Command.stop (x ∷ [])) refl refl
-outcome-kept (Call.raise x) room d =
-    let K = Kept (Call.raise x) room d in
-    let refuse = refused-kept (Call.raise x) room d in
+outcome-kept (Call.Down n) room d = limit-kept (Call.Down n) room d n (withDown n d) (Command.setDown n) refl refl
+outcome-kept (Call.Up n) room d = limit-kept (Call.Up n) room d n (withUp n d) (Command.setUp n) refl refl
+outcome-kept (Call.Start x) room d = running-kept (Call.Start x) room d x (withRunning x true d) (Command.start (x ∷ [])) refl refl
+outcome-kept (Call.Stop x) room d = running-kept (Call.Stop x) room d x (withRunning x false d) (Command.stop (x ∷ [])) refl refl
+outcome-kept (Call.Raise x) room d =
+    let K = Kept (Call.Raise x) room d in
+    let refuse = refused-kept (Call.Raise x) room d in
     cond-cases K (sound d)
     (λ _.
     cond-cases K (eqb (d .«override_id») 0)
-    (λ _. cond-cases K (has x (watched d)) (λ _. sent-kept (Call.raise x) room d (withOverride x d) (raiseCommands x d) refl) (λ _. refuse 31 refl))
+    (λ _. cond-cases K (has x (watched d)) (λ _. sent-kept (Call.Raise x) room d (withOverride x d) (raiseCommands x d) refl) (λ _. refuse 31 refl))
     (λ _. refuse 32 refl))
     (λ _. refuse 38 refl)
-outcome-kept Call.clear room d =
-    let K = Kept Call.clear room d in
-    let refuse = refused-kept Call.clear room d in
+outcome-kept Call.Clear room d =
+    let K = Kept Call.Clear room d in
+    let refuse = refused-kept Call.Clear room d in
     cond-cases K (sound d)
-    (λ _. cond-cases K (eqb (d .«override_id») 0) (λ _. refuse 33 refl) (λ _. sent-kept Call.clear room d (withOverride 0 d) (clearCommands d) refl))
+    (λ _. cond-cases K (eqb (d .«override_id») 0) (λ _. refuse 33 refl) (λ _. sent-kept Call.Clear room d (withOverride 0 d) (clearCommands d) refl))
     (λ _. refuse 38 refl)
 
 pub refusal-keeps : RefusalKeeps

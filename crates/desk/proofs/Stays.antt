@@ -14,7 +14,8 @@ use Rattle.desk.specs.Limit.{isLimit}
 use Rattle.desk.specs.Watch.{has, place, unused}
 use Rattle.desk.specs.Record.{watched, sound, withDown, withUp, withOverride, withRunning}
 use Rattle.desk.specs.Command.{Command, framesOf}
-use Rattle.desk.specs.Call.{Call, Outcome, outcome, refused, sent, asked, limitCall, runningCall, raiseCall, clearCall, raiseCommands, clearCommands}
+use Rattle.desk.specs.declared.calls.Call.{Call}
+use Rattle.desk.specs.Call.{Outcome, outcome, refused, sent, asked, limitCall, runningCall, raiseCall, clearCall, raiseCommands, clearCommands}
 use Rattle.desk.specs.Effect.{effect}
 use Rattle.desk.specs.Demands.{Turn, World, after, turn, turns, afterOpening, NeverBadRecord}
 use Rattle.desk.proofs.Cases.{cond-cases}
@@ -90,11 +91,11 @@ module _ (room : ℕ) (d : Desk) (h : sound d ≡ true) where
 
   outcome-keeps : (c : Call) → KeepsSound (outcome c room d)
   unfolding outcome raiseCall clearCall
-  outcome-keeps (Call.down n) = limit-keeps n (withDown n d) (Command.setDown n) (down-sound d n (sound-parts d h))
-  outcome-keeps (Call.up n) = limit-keeps n (withUp n d) (Command.setUp n) (up-sound d n (sound-parts d h))
-  outcome-keeps (Call.start x) = running-keeps x (withRunning x true d) (Command.start (x ∷ [])) (running-sound d x true (sound-parts d h))
-  outcome-keeps (Call.stop x) = running-keeps x (withRunning x false d) (Command.stop (x ∷ [])) (running-sound d x false (sound-parts d h))
-  outcome-keeps (Call.raise x) =
+  outcome-keeps (Call.Down n) = limit-keeps n (withDown n d) (Command.setDown n) (down-sound d n (sound-parts d h))
+  outcome-keeps (Call.Up n) = limit-keeps n (withUp n d) (Command.setUp n) (up-sound d n (sound-parts d h))
+  outcome-keeps (Call.Start x) = running-keeps x (withRunning x true d) (Command.start (x ∷ [])) (running-sound d x true (sound-parts d h))
+  outcome-keeps (Call.Stop x) = running-keeps x (withRunning x false d) (Command.stop (x ∷ [])) (running-sound d x false (sound-parts d h))
+  outcome-keeps (Call.Raise x) =
       sound-keeps _
       (cond-cases KeepsSound (eqb (d .«override_id») 0)
       (λ _.
@@ -102,7 +103,7 @@ module _ (room : ℕ) (d : Desk) (h : sound d ≡ true) where
       (λ k. sent-keeps (withOverride x d) (raiseCommands x d) (override-sound d x (sound-parts d h) (ap (λ b. eqb x 0 || b) k ∙ or-true (eqb x 0))))
       (λ _. refused-keeps 31 (λ e. omega arith)))
       (λ _. refused-keeps 32 (λ e. omega arith)))
-  outcome-keeps Call.clear =
+  outcome-keeps Call.Clear =
       sound-keeps _
       (cond-cases KeepsSound (eqb (d .«override_id») 0)
       (λ _. refused-keeps 33 (λ e. omega arith))

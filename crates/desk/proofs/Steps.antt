@@ -16,7 +16,8 @@ use Rattle.desk.specs.Limit.{isLimit, unlimited}
 use Rattle.desk.specs.Watch.{isId, has, place, marked, filtered}
 use Rattle.desk.specs.Record.{watched, sound, withDown, withUp, withOverride, withRunning}
 use Rattle.desk.specs.Command.{Command, framesOf}
-use Rattle.desk.specs.Call.{Call, Outcome, outcome, refused, sent, asked, limitCall, runningCall, raiseCall, clearCall, raiseCommands, clearCommands}
+use Rattle.desk.specs.declared.calls.Call.{Call}
+use Rattle.desk.specs.Call.{Outcome, outcome, refused, sent, asked, limitCall, runningCall, raiseCall, clearCall, raiseCommands, clearCommands}
 use Rattle.desk.specs.Machine.{Machine, listed, obey, request, aloneAfter}
 use Rattle.desk.specs.Demands.{overrideAfter, standingAfter, overridden}
 use Rattle.desk.proofs.Cases.{by-cases, cond-cases}
@@ -156,24 +157,24 @@ module _ (watch : List Watch) (others : ℕ → Bool) where
   unfolding withOverride
   override-desired d m x want = record { ids = want .ids; down = want .down; up = want .up; runs = want .runs }
 
-  raise-step : (d : Desk) (m : Machine) (x room y : ℕ) → Known d m x → Step (Call.raise y) m x (raiseCall room y d)
+  raise-step : (d : Desk) (m : Machine) (x room y : ℕ) → Known d m x → Step (Call.Raise y) m x (raiseCall room y d)
   unfolding raiseCall request overrideAfter withOverride raiseCommands isLimit
   raise-step d m x room y k =
-      cond-cases (Step (Call.raise y) m x) (sound d)
+      cond-cases (Step (Call.Raise y) m x) (sound d)
       (λ s.
-      cond-cases (Step (Call.raise y) m x) (eqb (d .«override_id») 0)
+      cond-cases (Step (Call.Raise y) m x) (eqb (d .«override_id») 0)
       (λ none-stands.
-      cond-cases (Step (Call.raise y) m x) (has y (watched d))
+      cond-cases (Step (Call.Raise y) m x) (has y (watched d))
       (λ h.
       let ok = has-id y (watched d) (sound-parts d s .ids) h in
-      sent-step (Call.raise y) d m x room (withOverride y d) (raiseCommands y d) k (record { desired = override-desired d m y (k .desired); stands = refl })
+      sent-step (Call.Raise y) d m x room (withOverride y d) (raiseCommands y d) k (record { desired = override-desired d m y (k .desired); stands = refl })
       (four-sendable unlimited unlimited _ (y ∷ []) refl refl (pick-few (λ v. not (eqb (v .id) y)) d s) (one-id y ok))
       (ap (λ b. obeyAll (raiseCommands y d) (cond b m (overridden watch others x))) (ap (λ z. eqb z 0) (k .stands) ∙ none-stands)
       ∙ raise-obeyed watch others d m y (k .desired .ids) (desired-kept watch others d m (k .desired))
       ∙ ap (λ b. cond b m (overridden watch others y)) (sym (id-not-zero y ok))))
-      (λ _. refused-step (Call.raise y) d m x 31 refl refl k))
-      (λ _. refused-step (Call.raise y) d m x 32 refl refl k))
-      (λ _. refused-step (Call.raise y) d m x 38 refl refl k)
+      (λ _. refused-step (Call.Raise y) d m x 31 refl refl k))
+      (λ _. refused-step (Call.Raise y) d m x 32 refl refl k))
+      (λ _. refused-step (Call.Raise y) d m x 38 refl refl k)
 
   -- the override of a sound record is on a watched ID
   override-watched : (d : Desk) (m : Machine) (x : ℕ) → sound d ≡ true → Known d m x → eqb (d .«override_id») 0 ≡ false → has x watch ≡ true
@@ -183,33 +184,33 @@ module _ (watch : List Watch) (others : ℕ → Bool) where
       ∙ ap (λ b. b || has (d .«override_id») (watched d)) (sym stands)
       ∙ sound-parts d s .override
 
-  clear-step : (d : Desk) (m : Machine) (x room : ℕ) → Known d m x → Step Call.clear m x (clearCall room d)
+  clear-step : (d : Desk) (m : Machine) (x room : ℕ) → Known d m x → Step Call.Clear m x (clearCall room d)
   unfolding clearCall request overrideAfter withOverride clearCommands
   clear-step d m x room k =
-      cond-cases (Step Call.clear m x) (sound d)
+      cond-cases (Step Call.Clear m x) (sound d)
       (λ s.
-      cond-cases (Step Call.clear m x) (eqb (d .«override_id») 0)
-      (λ _. refused-step Call.clear d m x 33 refl refl k)
+      cond-cases (Step Call.Clear m x) (eqb (d .«override_id») 0)
+      (λ _. refused-step Call.Clear d m x 33 refl refl k)
       (λ stands.
       let parts = sound-parts d s in
-      sent-step Call.clear d m x room (withOverride 0 d) (clearCommands d) k (record { desired = override-desired d m 0 (k .desired); stands = refl })
+      sent-step Call.Clear d m x room (withOverride 0 d) (clearCommands d) k (record { desired = override-desired d m 0 (k .desired); stands = refl })
       (four-sendable (d .down) (d .up) _ _ (parts .down) (parts .up) (pick-few (λ v. not (v .running)) d s) (pick-few (λ v. v .running) d s))
       (ap (λ b. obeyAll (clearCommands d) (cond b m (overridden watch others x))) (ap (λ z. eqb z 0) (k .stands) ∙ stands)
       ∙ clear-obeyed watch others d (overridden watch others x) m (k .desired) (parts .ids) (overridden-kept watch others x (override-watched d m x s k stands)))))
-      (λ _. refused-step Call.clear d m x 38 refl refl k)
+      (λ _. refused-step Call.Clear d m x 38 refl refl k)
 
   -- every call is a step
   pub outcome-step : (c : Call) (room : ℕ) (d : Desk) (m : Machine) (x : ℕ) → Known d m x → Step c m x (outcome c room d)
   unfolding outcome request overrideAfter obey listed withDown withUp
-  outcome-step (Call.down n) room d m x k =
-      limit-step (Call.down n) d m x room n (withDown n d) (Command.setDown n) k refl refl (λ h. h)
+  outcome-step (Call.Down n) room d m x k =
+      limit-step (Call.Down n) d m x room n (withDown n d) (Command.setDown n) k refl refl (λ h. h)
       (record { ids = k .desired .ids; down = refl; up = k .desired .up; runs = k .desired .runs }) refl
-  outcome-step (Call.up n) room d m x k =
-      limit-step (Call.up n) d m x room n (withUp n d) (Command.setUp n) k refl refl (λ h. h)
+  outcome-step (Call.Up n) room d m x k =
+      limit-step (Call.Up n) d m x room n (withUp n d) (Command.setUp n) k refl refl (λ h. h)
       (record { ids = k .desired .ids; down = k .desired .down; up = refl; runs = k .desired .runs }) refl
-  outcome-step (Call.start y) room d m x k =
-      running-step (Call.start y) d m x room y true (Command.start (y ∷ [])) k refl refl (one-id y) refl refl (λ z. started (eqb y z) (m .runs z))
-  outcome-step (Call.stop y) room d m x k =
-      running-step (Call.stop y) d m x room y false (Command.stop (y ∷ [])) k refl refl (one-id y) refl refl (λ z. stopped (eqb y z) (m .runs z))
-  outcome-step (Call.raise y) room d m x k = raise-step d m x room y k
-  outcome-step Call.clear room d m x k = clear-step d m x room k
+  outcome-step (Call.Start y) room d m x k =
+      running-step (Call.Start y) d m x room y true (Command.start (y ∷ [])) k refl refl (one-id y) refl refl (λ z. started (eqb y z) (m .runs z))
+  outcome-step (Call.Stop y) room d m x k =
+      running-step (Call.Stop y) d m x room y false (Command.stop (y ∷ [])) k refl refl (one-id y) refl refl (λ z. stopped (eqb y z) (m .runs z))
+  outcome-step (Call.Raise y) room d m x k = raise-step d m x room y k
+  outcome-step Call.Clear room d m x k = clear-step d m x room k

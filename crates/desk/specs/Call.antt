@@ -7,21 +7,13 @@ use mathlib.Core.List.{List, [], _∷_, _++_}
 use lib.Dec.{leb, eqb}
 use lib.IntN.{ℤ}
 use lib.ListN.{length}
+use Rattle.desk.specs.declared.calls.Call.{Call}
 use Rattle.desk.specs.declared.lists.Pick.{Pick}
 use Rattle.desk.specs.declared.record.Desk.{Desk}
 use Rattle.desk.specs.Limit.{unlimited, isLimit}
 use Rattle.desk.specs.Watch.{has, pickIds}
 use Rattle.desk.specs.Record.{watched, sound, withDown, withUp, withOverride, withRunning}
 use Rattle.desk.specs.Command.{Command, framesOf, listing}
-
--- the routine requests, raise and clear
-pub data Call : Type 0 where
-  down : ℤ → Call
-  up : ℤ → Call
-  start : ℕ → Call
-  stop : ℕ → Call
-  raise : ℕ → Call
-  clear : Call
 
 -- a call's code, the record after it, and the commands whose frames it writes
 pub record Outcome : Type 0 where
@@ -77,9 +69,9 @@ clearCall room d =
 
 -- what a call does that is lent so many bytes
 unfoldable pub outcome : Call → ℕ → Desk → Outcome
-outcome (down n) room d = limitCall room n d (withDown n d) (Command.setDown n)
-outcome (up n) room d = limitCall room n d (withUp n d) (Command.setUp n)
-outcome (start x) room d = runningCall room x d (withRunning x true d) (Command.start (x ∷ []))
-outcome (stop x) room d = runningCall room x d (withRunning x false d) (Command.stop (x ∷ []))
-outcome (raise x) room d = raiseCall room x d
-outcome clear room d = clearCall room d
+outcome (Call.Down n) room d = limitCall room n d (withDown n d) (Command.setDown n)
+outcome (Call.Up n) room d = limitCall room n d (withUp n d) (Command.setUp n)
+outcome (Call.Start x) room d = runningCall room x d (withRunning x true d) (Command.start (x ∷ []))
+outcome (Call.Stop x) room d = runningCall room x d (withRunning x false d) (Command.stop (x ∷ []))
+outcome (Call.Raise x) room d = raiseCall room x d
+outcome Call.Clear room d = clearCall room d

@@ -15,18 +15,19 @@ use Rattle.desk.specs.Watch.{mostWatched, has, marked}
 use Rattle.desk.specs.Record.{closed}
 use Rattle.desk.specs.Opening.{opening}
 use Rattle.desk.specs.Command.{longest}
-use Rattle.desk.specs.Call.{Call, outcome}
+use Rattle.desk.specs.declared.calls.Call.{Call}
+use Rattle.desk.specs.Call.{outcome}
 use Rattle.desk.specs.Effect.{Effect, effect, returned, bufferAfter}
 use Rattle.desk.specs.Machine.{Machine, handed, aloneAfter}
 
 -- ---- the override: it stands on x, from a raise on x with answer 0 to the next clear with answer 0
 unfoldable pub overrideAfter : Call → ℕ → ℕ
-overrideAfter (Call.down n) x = x
-overrideAfter (Call.up n) x = x
-overrideAfter (Call.start y) x = x
-overrideAfter (Call.stop y) x = x
-overrideAfter (Call.raise y) x = y
-overrideAfter Call.clear x = 0
+overrideAfter (Call.Down n) x = x
+overrideAfter (Call.Up n) x = x
+overrideAfter (Call.Start y) x = x
+overrideAfter (Call.Stop y) x = x
+overrideAfter (Call.Raise y) x = y
+overrideAfter Call.Clear x = 0
 
 unfoldable pub standingAfter : Call → ℕ → ℕ → ℕ
 standingAfter c code x = cond (eqb code 0) (overrideAfter c x) x
@@ -104,8 +105,8 @@ NoLonger = (c : Call) (room : ℕ) (d : Desk) → length (effect (outcome c room
 -- and one writes as many: after some accepted opening with 32 records and an accepted raise, the clear, whatever room from 479 on is lent
 abbrev pub LongestReached : Type 0
 LongestReached = (watch : List Watch) × (down : ℤ) × (up : ℤ) × (x : ℕ) × (length watch ≡ mostWatched) × (opening (length watch) watch down up .code ≡ 0)
-    × ((room : ℕ) → longest ≤ room → let raised = outcome (Call.raise x) room (opening (length watch) watch down up .desk) in
-    (raised .code ≡ 0) × (length (effect (outcome Call.clear room (raised .desk)) .bytes) ≡ longest))
+    × ((room : ℕ) → longest ≤ room → let raised = outcome (Call.Raise x) room (opening (length watch) watch down up .desk) in
+    (raised .code ≡ 0) × (length (effect (outcome Call.Clear room (raised .desk)) .bytes) ≡ longest))
 
 -- after an accepted opening no call answers 38
 abbrev pub NeverBadRecord : Type 0

@@ -13,7 +13,7 @@ use Rattle.bencode.specs.Integer.{integerAt}
 use Rattle.ipc.specs.Answer.{Answer, Content, nothing, integer, text, part, versions}
 use Rattle.ipc.specs.Frame.{readFrame}
 use Rattle.desk.specs.Command.{Command, downlimitKey, startKey, stopKey, uplimitKey}
-use Rattle.desk.specs.Call.{Call}
+use Rattle.desk.specs.declared.calls.Call.{Call}
 
 pub record Machine : Type 0 where
   pub down : ℤ
@@ -82,12 +82,12 @@ handed bytes (some m) = takes (suc (length bytes)) bytes m
 -- ---- routine alone: it takes the calls' arguments and answers
 -- a routine request sets its limit, or adds or takes out its ID; any other call passes it by
 unfoldable pub request : Call → Machine → Machine
-request (Call.down n) m = obey (Command.setDown n) m
-request (Call.up n) m = obey (Command.setUp n) m
-request (Call.start x) m = obey (Command.start (x ∷ [])) m
-request (Call.stop x) m = obey (Command.stop (x ∷ [])) m
-request (Call.raise x) m = m
-request Call.clear m = m
+request (Call.Down n) m = obey (Command.setDown n) m
+request (Call.Up n) m = obey (Command.setUp n) m
+request (Call.Start x) m = obey (Command.start (x ∷ [])) m
+request (Call.Stop x) m = obey (Command.stop (x ∷ [])) m
+request (Call.Raise x) m = m
+request Call.Clear m = m
 
 -- and so does one that is not answered 0 or 1
 unfoldable pub aloneAfter : Call → ℕ → Machine → Machine

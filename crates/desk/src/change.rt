@@ -3,26 +3,10 @@ ghost use mathlib.Core.Path.{_≡_};
 ghost use mathlib.Core.Bool.{true};
 ghost use Prim.Native.Nat.{_≤_};
 ghost use Rattle.desk.specs.Watch.{mostWatched, has};
-ghost use Rattle.desk.specs.Record.{watched, closed, withDown, withUp, withOverride, withRunning};
-use super::lists::no_places;
+ghost use Rattle.desk.specs.Record.{watched, withDown, withUp, withOverride, withRunning};
 use super::lists::place_of;
 use super::record::Desk;
 use super::watch::Watch;
-
-// A closed desk: zero throughout.
-pub fn closed_desk() -> Desk
-    ensures { λ r. ⌜ r ≡ closed ⌝ }
-{
-    let watch = no_places();
-    Desk {
-        opened: false,
-        count: 0,
-        down: 0,
-        up: 0,
-        override_id: 0,
-        watch: watch,
-    }
-}
 
 // The record with another down limit.
 pub fn with_down(d: Desk, n: i32) -> Desk

@@ -1,6 +1,7 @@
 // Clearing an override.
 ghost use lib.ListN.{length};
-ghost use Rattle.desk.specs.Call.{Call, outcome};
+ghost use Rattle.desk.specs.declared.calls.Call.{Call};
+ghost use Rattle.desk.specs.Call.{outcome};
 ghost use Rattle.desk.specs.Effect.{Returned, effect};
 use super::change::with_override;
 use super::done::Done;
@@ -13,7 +14,7 @@ use super::sound::is_sound;
 
 // Ends the override: the daemon gets what is desired by now.
 pub fn clear(d: Desk, out: &mut [u8]) -> Done
-    ensures { λ r. ⌜ Returned (effect (outcome Call.clear (length (now (out .entry))) d)) (now (out .entry)) r (now (out .exit)) ⌝ }
+    ensures { λ r. ⌜ Returned (effect (outcome Call.Clear (length (now (out .entry))) d)) (now (out .entry)) r (now (out .exit)) ⌝ }
 {
     if !is_sound(d) {
         return refuse(d, Done::RECORD);

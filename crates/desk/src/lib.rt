@@ -1,5 +1,6 @@
 // The override desk of document 01: it keeps what is desired of the daemon's limits and watched transfers, gives one transfer
 // the whole link while an override stands, and restores what is desired when it is cleared.
+pub mod calls;
 mod change;
 pub mod clear;
 pub mod done;

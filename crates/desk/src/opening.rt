@@ -4,13 +4,13 @@ ghost use Prim.Native.Nat.{_≤_, min};
 ghost use lib.ListN.{length, take};
 ghost use Rattle.desk.specs.Watch.{mostWatched, padded};
 ghost use Rattle.desk.specs.Opening.{refusedOpening, opening};
-use super::change::closed_desk;
 use super::limit::is_limit;
 use super::lists::cleared_from;
 use super::lists::fault_of;
 use super::lists::no_places;
 use super::lists::with_watch;
 use super::record::Desk;
+use super::record::closed_desk;
 use super::watch::PLACES;
 use super::watch::Watch;
 
@@ -41,9 +41,9 @@ fn refuse_opening(code: u8) -> Opened
     }
 }
 
-// Opens with the first `count` of the records, where `count` is how many were lent. It clears the places past them itself, so
-// that it takes any array.
-fn open_core(watch: [Watch; PLACES], count: usize, down: i32, up: i32) -> Opened
+// Opens with the first `count` records of an array; those past them are passed over, and a count over the places is refused.
+// A caller that holds no slice of structs calls this one: such a slice's proof is walked by hand.
+pub fn open_records(watch: [Watch; PLACES], count: usize, down: i32, up: i32) -> Opened
     ensures { λ r. ⌜ r ≡ opening count (take count watch) down up ⌝ }
 {
     if PLACES < count {
@@ -96,24 +96,5 @@ fn copied(list: &[Watch]) -> [Watch; PLACES]
 pub fn open(list: &[Watch], down: i32, up: i32) -> Opened
     ensures { λ r. ⌜ r ≡ opening (length (now (list .entry))) (now (list .entry)) down up ⌝ }
 {
-    open_core(copied(list), list.len(), down, up)
-}
-
-// Opens with the first records of an array, which are lent to `open`.
-fn open_lent(watch: [Watch; PLACES], count: usize, down: i32, up: i32) -> Opened
-    requires { ⌜ count ≤ mostWatched ⌝ }
-    ensures { λ r. ⌜ r ≡ opening count (take count watch) down up ⌝ }
-{
-    open(&watch[..count], down, up)
-}
-
-// Opens with the first `count` records of an array; those past them are passed over, and a count over the places is refused.
-// Neither this function nor its callers hold a slice of structs, which a proof has to walk by hand.
-pub fn open_records(watch: [Watch; PLACES], count: usize, down: i32, up: i32) -> Opened
-    ensures { λ r. ⌜ r ≡ opening count (take count watch) down up ⌝ }
-{
-    if PLACES < count {
-        return refuse_opening(Opened::LIST);
-    }
-    open_lent(watch, count, down, up)
+    open_records(copied(list), list.len(), down, up)
 }

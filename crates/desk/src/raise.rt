@@ -1,6 +1,7 @@
 // Raising an override.
 ghost use lib.ListN.{length};
-ghost use Rattle.desk.specs.Call.{Call, outcome};
+ghost use Rattle.desk.specs.declared.calls.Call.{Call};
+ghost use Rattle.desk.specs.Call.{outcome};
 ghost use Rattle.desk.specs.Effect.{Returned, effect};
 use super::change::with_override;
 use super::done::Done;
@@ -14,7 +15,7 @@ use super::sound::watches;
 
 // Gives a watched transfer the whole link.
 pub fn raise(d: Desk, id: u32, out: &mut [u8]) -> Done
-    ensures { λ r. ⌜ Returned (effect (outcome (Call.raise id) (length (now (out .entry))) d)) (now (out .entry)) r (now (out .exit)) ⌝ }
+    ensures { λ r. ⌜ Returned (effect (outcome (Call.Raise id) (length (now (out .entry))) d)) (now (out .entry)) r (now (out .exit)) ⌝ }
 {
     if !is_sound(d) {
         return refuse(d, Done::RECORD);

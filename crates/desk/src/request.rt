@@ -4,7 +4,8 @@ ghost use mathlib.Core.List.{[], _∷_};
 ghost use Prim.Native.Nat.{_≤_};
 ghost use lib.ListN.{length};
 ghost use Rattle.desk.specs.Command.{limitFrame, idsFrame, LimitKey, ListKey};
-ghost use Rattle.desk.specs.Call.{Call, outcome};
+ghost use Rattle.desk.specs.declared.calls.Call.{Call};
+ghost use Rattle.desk.specs.Call.{outcome};
 ghost use Rattle.desk.specs.Record.{withRunning};
 ghost use Rattle.desk.specs.Effect.{Returned, effect, limitRequested, runningRequested};
 use super::change::with_down;
@@ -59,28 +60,28 @@ fn request_running(d: Desk, key: u8, id: u32, running: bool, out: &mut [u8]) -> 
 
 // Requests a down limit.
 pub fn limit_down(d: Desk, limit: i32, out: &mut [u8]) -> Done
-    ensures { λ r. ⌜ Returned (effect (outcome (Call.down limit) (length (now (out .entry))) d)) (now (out .entry)) r (now (out .exit)) ⌝ }
+    ensures { λ r. ⌜ Returned (effect (outcome (Call.Down limit) (length (now (out .entry))) d)) (now (out .entry)) r (now (out .exit)) ⌝ }
 {
     request_limit(d, with_down(d, limit), DOWNLIMIT, limit, out)
 }
 
 // Requests an up limit.
 pub fn limit_up(d: Desk, limit: i32, out: &mut [u8]) -> Done
-    ensures { λ r. ⌜ Returned (effect (outcome (Call.up limit) (length (now (out .entry))) d)) (now (out .entry)) r (now (out .exit)) ⌝ }
+    ensures { λ r. ⌜ Returned (effect (outcome (Call.Up limit) (length (now (out .entry))) d)) (now (out .entry)) r (now (out .exit)) ⌝ }
 {
     request_limit(d, with_up(d, limit), UPLIMIT, limit, out)
 }
 
 // Requests that a watched transfer runs.
 pub fn start(d: Desk, id: u32, out: &mut [u8]) -> Done
-    ensures { λ r. ⌜ Returned (effect (outcome (Call.start id) (length (now (out .entry))) d)) (now (out .entry)) r (now (out .exit)) ⌝ }
+    ensures { λ r. ⌜ Returned (effect (outcome (Call.Start id) (length (now (out .entry))) d)) (now (out .entry)) r (now (out .exit)) ⌝ }
 {
     request_running(d, START, id, true, out)
 }
 
 // Requests that a watched transfer stops.
 pub fn stop(d: Desk, id: u32, out: &mut [u8]) -> Done
-    ensures { λ r. ⌜ Returned (effect (outcome (Call.stop id) (length (now (out .entry))) d)) (now (out .entry)) r (now (out .exit)) ⌝ }
+    ensures { λ r. ⌜ Returned (effect (outcome (Call.Stop id) (length (now (out .entry))) d)) (now (out .entry)) r (now (out .exit)) ⌝ }
 {
     request_running(d, STOP, id, false, out)
 }

@@ -11,7 +11,7 @@ use borrow.Author.Tests.{eq-eqb, ne-eqb, le-leb, lt-leb}
 use lib.Dec.{eqb}
 use lib.ListN.{length}
 use Rattle.bencode.specs.Bytes.{byteAt}
-use Rattle.strip.specs.declared.record.Call.{Call}
+use Rattle.desk.specs.declared.calls.Call.{Call}
 use Rattle.strip.specs.declared.record.Record.{Record}
 use Rattle.strip.proofs.record.Record.{the-type}
 use Rattle.strip.specs.Number.{numberAt, limitAt}

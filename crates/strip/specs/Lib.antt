@@ -1,6 +1,5 @@
 pub mod Number
 pub mod Record
 pub mod Gather
-pub mod Perform
 pub mod Line
 pub mod Demands

@@ -6,7 +6,7 @@ use mathlib.Core.List.{List}
 use lib.Dec.{eqb, leb, ltb}
 use lib.ListN.{length}
 use Rattle.bencode.specs.Bytes.{byteAt}
-use Rattle.strip.specs.declared.record.Call.{Call}
+use Rattle.desk.specs.declared.calls.Call.{Call}
 use Rattle.strip.specs.declared.record.Record.{Record}
 use Rattle.strip.specs.declared.record.Decoded.{Decoded}
 use Rattle.strip.specs.Number.{numberAt, limitAt}

@@ -2,5 +2,4 @@
 pub mod gather;
 pub mod line;
 mod number;
-pub mod perform;
 pub mod record;

@@ -6,16 +6,7 @@ ghost use Rattle.strip.specs.Record.{bodyLength, mayStand, callOf, callK
 use super::number::limit_at;
 use super::number::number_at;
 use bencode::bytes::byte_at;
-
-// A call: kinds 1 to 6.
-pub enum Call {
-    Down(i32),
-    Up(i32),
-    Start(u32),
-    Stop(u32),
-    Raise(u32),
-    Clear,
-}
+use desk::calls::Call;
 
 // What stands at an offset of a strip: a record, a fault or the strip's end.
 pub enum Record {

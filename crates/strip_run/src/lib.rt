@@ -1,8 +1,10 @@
 // Runs a strip: opens the desk, makes the calls one by one and prints a line for each.
+use desk::calls::Call;
+use desk::calls::perform;
 use desk::done::LONGEST;
 use desk::opening::open_records;
 use desk::record::Desk;
-use desk::watch::PLACES;
+use desk::record::closed_desk;
 use libc::STDOUT_FILENO;
 use strip::gather::Gathered;
 use strip::gather::gather;
@@ -11,8 +13,6 @@ use strip::line::Line;
 use strip::line::call_line;
 use strip::line::fault_line;
 use strip::line::open_line;
-use strip::perform::perform;
-use strip::record::Call;
 use strip::record::Record;
 use strip::record::call_kind;
 use strip::record::record_at;
@@ -62,9 +62,7 @@ fn print_frames(out: &[u8], count: usize) -> bool {
 // Nothing is read yet, and the desk is closed.
 fn begun() -> Run {
     let gathered = nothing_gathered();
-    let watch = gathered.watch;
-    let refused = open_records(watch, PLACES + 1, 0, 0);
-    let desk = refused.desk;
+    let desk = closed_desk();
     Run {
         at: 0,
         called: false,

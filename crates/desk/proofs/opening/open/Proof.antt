@@ -1,4 +1,4 @@
--- `desk::opening::open` meets its contract: a walk of its MIR, by hand. The list is copied by `copied`, and `open_core` opens with the places and the list's length.
+-- `desk::opening::open` meets its contract: a walk of its MIR, by hand. The list is copied by `copied`, and `open_records` opens with the places and the list's length.
 -- All that the proof knows of the two is that each meets its contract. The slice is Copy: what it owns is had twice, one copy goes to `copied`, and one is kept for the exit.
 -- Assumes nothing.
 use mathlib.Core.Path.{_≡_, refl, _∙_, ap}
@@ -42,7 +42,7 @@ use Rattle.desk.specs.Watch.{padded}
 use Rattle.desk.specs.Opening.{opening}
 use Rattle.desk.specs.declared.watch.Watch.{Watch}
 use Rattle.desk.specs.declared.opening.Opened.{Opened}
-use Rattle.desk.proofs.Calls.{asked, calls-by}
+use Rattle.desk.proofs.WalkedCall.{asked, calls-by}
 use Rattle.desk.proofs.OpeningLaws.{opening-copied}
 use Rattle.desk.proofs.watch.Watch as T
 use Rattle.desk.proofs.watch.Watch.Laws as T′
@@ -52,10 +52,10 @@ use Rattle.desk.proofs.opening.copied as copied
 use Rattle.desk.proofs.opening.copied.Symbol as copied-def
 use Rattle.desk.proofs.opening.copied.Symbol.{name as #desk·opening·copied}
 use Rattle.desk.proofs.opening.copied.Met as copied-thm
-use Rattle.desk.proofs.opening.open_core as core
-use Rattle.desk.proofs.opening.open_core.Symbol as core-def
-use Rattle.desk.proofs.opening.open_core.Symbol.{name as #desk·opening·open-core}
-use Rattle.desk.proofs.opening.open_core.Met as core-thm
+use Rattle.desk.proofs.opening.open_records as core
+use Rattle.desk.proofs.opening.open_records.Symbol as core-def
+use Rattle.desk.proofs.opening.open_records.Symbol.{name as #desk·opening·open-records}
+use Rattle.desk.proofs.opening.open_records.Met as core-thm
 use Rattle.desk.proofs.opening.open.Key.{name as #desk·opening·open}
 use Rattle.desk.proofs.opening.open as opens
 use Rattle.desk.proofs.opening.open.Statement as stated
@@ -123,7 +123,7 @@ module _ {M : Type 1} (𝓤 : URA M) (H : Heap 𝓤) (A : Atoms 𝓤) (W : Given
       suffices ! _ (ends-at 𝓤 H A opens.ended stayed (opens.clauses 𝓤 H A mem run) W (((κ, tt), (q, tt), tt, (list, (d, (u, tt))), at), tt) w r (tt, (tt, (tt, tt))) (tt, (tt, (tt, tt)))) $ says ! e $
       move ! (1 ∷ []) $ frame ! $ nothing ! $ owned ! i32 (Is i32) (sint-makes 𝓤 H A W w32) u _ gu $ fjoin ! $ owned ! i32 (Is i32) (sint-makes 𝓤 H A W w32) d _ gd $ fjoin ! $ move ! (2 ∷ 0 ∷ []) $ fjoin ! $ frame ! $ done !
 
-  module _ (C : Calls 𝓤 H) (Λ : Loops 𝓤 H) (fm : FmC 𝓤 H (W .laws) C) (known-copied : Triple 𝓤 (C #desk·opening·copied) (Copied 𝓤 H A mem run)) (known-core : Triple 𝓤 (C #desk·opening·open-core) (Core 𝓤 H A mem run)) where
+  module _ (C : Calls 𝓤 H) (Λ : Loops 𝓤 H) (fm : FmC 𝓤 H (W .laws) C) (known-copied : Triple 𝓤 (C #desk·opening·copied) (Copied 𝓤 H A mem run)) (known-core : Triple 𝓤 (C #desk·opening·open-records) (Core 𝓤 H A mem run)) where
     walk : Room R n → Is i32 d (vd ∷ []) → Is i32 u (vu ∷ []) → ent 𝓤 (onEntry 𝓤 H A opens.signature (κ, tt) (q, tt) (list, (d, (u, tt))) at) (WpFn 𝓤 H C Λ code.function (v ∷ vd ∷ vu ∷ []) Post)
     walk g gd gu =
         qed W ((‵ (flft κ q) ⊛ ‵ ftrue) ∷ ‵ (owns (ShrSlice (named 0) κ R ∷ i32 ∷ i32 ∷ []) (list, (d, (u, tt))) at) ∷ []) ∵ enter ! C Λ code.function (v ∷ vd ∷ vu ∷ []) _ $
@@ -149,7 +149,7 @@ module _ {M : Type 1} (𝓤 : URA M) (H : Heap 𝓤) (A : Atoms 𝓤) (W : Given
         makes = (array-makes 𝓤 H A W R (LL.makes T.the-type T′.the-plain 𝓤 H A) 32, (uint-makes 𝓤 H A W w64, (sint-makes 𝓤 H A W w32, (sint-makes 𝓤 H A W w32, tt))))
 
 module _ {M : Type 1} (𝓤 : URA M) (H : Heap 𝓤) (A : Atoms 𝓤) (W : Given 𝓤 H A) (mem : Memory → SProp 𝓤) (run : Routine → Fun 𝓤) (𝓣 : Tables 𝓤 H)
-    (known-copied : Triple 𝓤 (𝓣 .C #desk·opening·copied) (Copied 𝓤 H A mem run)) (known-core : Triple 𝓤 (𝓣 .C #desk·opening·open-core) (Core 𝓤 H A mem run)) where
+    (known-copied : Triple 𝓤 (𝓣 .C #desk·opening·copied) (Copied 𝓤 H A mem run)) (known-core : Triple 𝓤 (𝓣 .C #desk·opening·open-records) (Core 𝓤 H A mem run)) where
   opens-walks : Walks 𝓤 H A opens.ended stayed (WpFn 𝓤 H (𝓣 .C) (𝓣 .Λ) code.function) (opens.clauses 𝓤 H A mem run)
   opens-walks = walked 𝓤 H A opens.ended stayed (opens.clauses 𝓤 H A mem run) (WpFn 𝓤 H (𝓣 .C) (𝓣 .Λ) code.function) (λ κs. (slice-vals, (sint-vals w32, (sint-vals w32, tt)))) (λ κs. (shr-slice-tells (named 0) (κs .0) R, (sint-tells w32, (sint-tells w32, tt))))
       (λ κs qs bounds a _ are. via 𝓤 _ (fst∗ 𝓤 _ (emp 𝓤))
@@ -166,4 +166,4 @@ open-spec 𝓤 H 𝓜 𝓖 𝓡 =
     (tables 𝓤 H 𝓜 𝓡 code.env .C) (tables 𝓤 H 𝓜 𝓡 code.env .Λ) #desk·opening·open code.function (code.unfolded 𝓤 H 𝓜 𝓡)
     (opens-meets 𝓤 H (𝓖 .A) (givenOf 𝓤 H 𝓜 𝓖) (𝓜 .mem) (𝓡 .run) (tablesOf 𝓤 H 𝓜 (tables 𝓤 H 𝓜 𝓡 code.env))
     (cited 𝓤 H (Copied 𝓤 H (𝓖 .A) (𝓜 .mem) (𝓡 .run)) 𝓜 𝓡 code.env #desk·opening·copied copied-def.routine code.calls-desk·opening·copied (copied-thm.met 𝓤 H 𝓜 𝓖 𝓡))
-    (cited 𝓤 H (Core 𝓤 H (𝓖 .A) (𝓜 .mem) (𝓡 .run)) 𝓜 𝓡 code.env #desk·opening·open-core core-def.routine code.calls-desk·opening·open-core (core-thm.met 𝓤 H 𝓜 𝓖 𝓡)))
+    (cited 𝓤 H (Core 𝓤 H (𝓖 .A) (𝓜 .mem) (𝓡 .run)) 𝓜 𝓡 code.env #desk·opening·open-records core-def.routine code.calls-desk·opening·open-records (core-thm.met 𝓤 H 𝓜 𝓖 𝓡)))

@@ -1,7 +1,7 @@
 -- `strip::record::call_at` meets its contract.
 -- Assumes nothing.
 use mathlib.Core.Path.{ap, _∙_}
-use Rattle.strip.specs.declared.record.Call.{Call}
+use Rattle.desk.specs.declared.calls.Call.{Call}
 use Rattle.strip.proofs.NumberLaws.{machine}
 use Rattle.strip.proofs.RecordLaws.{call-down, call-up, call-start, call-stop, call-raise}
 use borrow.Author.Needs.{needs}

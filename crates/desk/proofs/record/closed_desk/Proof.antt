@@ -1,10 +1,10 @@
--- `desk::change::closed_desk` meets its contract.
+-- `desk::record::closed_desk` meets its contract.
 -- Assumes nothing.
 use borrow.Author.Needs.{needs}
 use Rattle.desk.specs.Record.{closed}
 use Rattle.desk.proofs.Places.{places-none}
-use Rattle.desk.proofs.change.closed_desk.Statement.{statement}
-use Rattle.desk.proofs.change.closed_desk.Tie as tie
+use Rattle.desk.proofs.record.closed_desk.Statement.{statement}
+use Rattle.desk.proofs.record.closed_desk.Tie as tie
 
 no-places-requires : tie.Need-no-places-requires
 no-places-requires c κs = search needs

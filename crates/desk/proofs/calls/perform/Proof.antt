@@ -1,10 +1,10 @@
--- `strip::perform::perform` meets its contract.
+-- `desk::calls::perform` meets its contract.
 -- Assumes nothing.
 use mir.Syntax.{w32}
 use mir.ValLaws.{toZ-ofZ}
 use borrow.Author.Needs.{needs}
-use Rattle.strip.proofs.perform.perform.Statement.{statement}
-use Rattle.strip.proofs.perform.perform.Tie as tie
+use Rattle.desk.proofs.calls.perform.Statement.{statement}
+use Rattle.desk.proofs.calls.perform.Tie as tie
 
 enum-known-call : tie.Need-enum-known-call
 enum-known-call c = search needs
