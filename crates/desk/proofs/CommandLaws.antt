@@ -8,11 +8,10 @@ use mathlib.Core.List.{List, [], _∷_, _++_}
 use lib.IntN.{ℤ}
 use lib.ListN.{length}
 use Rattle.desk.specs.Limit.{isLimit}
-use Rattle.desk.specs.Watch.{mostWatched, isId}
+use Rattle.desk.specs.Watch.{mostWatched, isId, allIds}
 use Rattle.desk.specs.Command.{Command, listing}
 use Rattle.desk.specs.Machine.{Machine, listed, obey}
 use Rattle.desk.proofs.Cases.{and-true}
-use Rattle.desk.proofs.FrameLengths.{allIds}
 
 -- ---- sendable: limits in their range, and at most 32 torrent IDs
 abbrev pub FewIds : List ℕ → Type 0

@@ -1,68 +1,136 @@
--- Demand 3: each call is a step (`Steps`), and the daemon takes the frames that the call wrote (`ReadsCommands`).
+-- Demand 3: each call is a step (`Steps`), the daemon takes the frames that the call wrote (`ReadsCommands`), and the override that
+-- stands is the record's.
 -- Assumes nothing.
 use Prim.Native.Nat.{ℕ, _≤_}
-use mathlib.Core.Path.{_≡_, refl, sym, ap, subst, _∙_}
-use mathlib.Core.Bool.{Bool, cond}
-use mathlib.Core.List.{List, [], _∷_}
-use mathlib.Core.Option.{some}
+use native.Mathlib.Omega.{arith}
+use mathlib.Core.Path.{_≡_, refl, sym, ap, ap₂, subst, _∙_}
+use mathlib.Core.Bool.{Bool, true, false, cond, not}
+use mathlib.Core.List.{List, [], _∷_, _++_}
+use mathlib.Core.Option.{Option, some, none, Option·none-ne-some, Option·some-injective}
+use lib.Dec.{eqb}
 use lib.IntN.{ℤ}
 use lib.ListN.{length, take, drop}
+use borrow.Author.Tests.{ne-eqb}
+use Rattle.desk.specs.declared.calls.Call.{Call}
 use Rattle.desk.specs.declared.watch.Watch.{Watch}
 use Rattle.desk.specs.declared.record.Desk.{Desk}
 use Rattle.desk.specs.Watch.{mostWatched, has, marked, places}
-use Rattle.desk.specs.Record.{openedWith}
+use Rattle.desk.specs.Record.{watched, openedWith, withDown, withUp, withRunning, withOverride}
 use Rattle.desk.specs.Opening.{opening}
-use Rattle.desk.specs.Command.{framesOf}
-use Rattle.desk.specs.Call.{outcome}
-use Rattle.desk.specs.Effect.{effect, returned, bufferAfter}
-use Rattle.desk.specs.Demands.{Turn, World, after, turn, turns, atOpening, afterOpening, Demand3}
+use Rattle.desk.specs.Command.{Command, framesOf}
+use Rattle.desk.specs.Refusal.{stands}
+use Rattle.desk.specs.Plan.{Outcome, deferred, deskAfter, plan}
+use Rattle.desk.specs.Calls.{framed, outcome, returned, bufferAfter}
+use Rattle.desk.specs.Machine.{Machine, handed, aloneAfter}
+use Rattle.desk.specs.Demands.{desk, standingAfter, Turn, World, after, turn, turns, atOpening, afterOpening, overridden, Demand3}
+use Rattle.desk.proofs.Cases.{by-cases, cond-cases}
 use Rattle.desk.proofs.Places.{take-places}
 use Rattle.desk.proofs.AcceptedOpening.{open-accepted}
 use Rattle.desk.proofs.ReadsCommands.{frames-handed}
-use Rattle.desk.proofs.Steps.{Known, due, outcome-step}
+use Rattle.desk.proofs.RefusalLaws.{Accepted}
+use Rattle.desk.proofs.CallLaws.{Comes, outcome-cases}
+use Rattle.desk.proofs.Overrides.{Desired}
+use Rattle.desk.proofs.PlanLaws.{watched-id}
+use Rattle.desk.proofs.Steps.{due, outcome-step}
+use Rattle.desk.proofs.WatchLists.{id-not-zero}
+
+-- ---- the override that stands is the record's
+abbrev standing : Desk → Option ℕ
+standing d = cond (stands d) (some (d .«override_id»)) none
+
+abbrev Follows : Call → Desk → Outcome (List Command) → Type 0
+Follows c d o = standing (o .desk) ≡ standingAfter c (o .code) (standing d)
+
+refused-follows : (c : Call) (n : ℕ) (x : Option ℕ) → 2 ≤ n → x ≡ standingAfter c n x
+unfolding standingAfter
+refused-follows (Call.Down m) n x h = refl
+refused-follows (Call.Up m) n x h = refl
+refused-follows (Call.Start y) n x h = refl
+refused-follows (Call.Stop y) n x h = refl
+refused-follows (Call.Raise y) n x h = ap (λ b. cond b (some y) x) (sym (ne-eqb n 0 (λ e. omega arith)))
+refused-follows Call.Clear n x h = ap (λ b. cond b none x) (sym (ne-eqb n 0 (λ e. omega arith)))
+
+plan-follows : (c : Call) (d : Desk) → Accepted c d → Follows c d (plan c d)
+unfolding plan deskAfter standingAfter withDown withUp withRunning withOverride
+plan-follows (Call.Down n) d ok = cond-cases (Follows (Call.Down n) d) (stands d) (λ _. refl) (λ _. refl)
+plan-follows (Call.Up n) d ok = cond-cases (Follows (Call.Up n) d) (stands d) (λ _. refl) (λ _. refl)
+plan-follows (Call.Start x) d ok = cond-cases (Follows (Call.Start x) d) (stands d) (λ _. refl) (λ _. refl)
+plan-follows (Call.Stop x) d ok = cond-cases (Follows (Call.Stop x) d) (stands d) (λ _. refl) (λ _. refl)
+plan-follows (Call.Raise x) d ok = ap (λ b. cond (not b) (some x) none) (id-not-zero x (watched-id (Call.Raise x) d x ok refl))
+plan-follows Call.Clear d ok = refl
+
+outcome-follows : (c : Call) (room : ℕ) (d : Desk) → standing (outcome c room d .desk) ≡ standingAfter c (outcome c room d .code) (standing d)
+unfolding framed
+outcome-follows c room d =
+    let k = outcome-cases (Follows c d) c room d (λ n r. refused-follows c n (standing d) (r .large)) (plan-follows c d) in
+    ap (λ (o : Outcome (List ℕ)). standing (o .desk)) (k .is)
+    ∙ k .holds
+    ∙ ap (λ (o : Outcome (List ℕ)). standingAfter c (o .code) (standing d)) (sym (k .is))
 
 module _ (watch : List Watch) (others : ℕ → Bool) where
   -- the invariant
-  record Invariant (w : World) : Type 0 where
-    known : Known watch others (w .desk) (w .alone) (w .standing)
-    right : w .daemon ≡ some (due watch others (w .alone) (w .standing))
+  record Invariant (w : World Desk) : Type 0 where
+    wanted : Desired watch others (w .record-now) (w .alone)
+    right : w .daemon ≡ some (due watch others (w .alone) (w .record-now))
+    follows : w .standing ≡ standing (w .record-now)
 
-  turn-keeps : (t : Turn) (w : World) → Invariant w → Invariant (turn t w)
-  unfolding turn after effect returned bufferAfter
+  turn-keeps : (t : Turn) (w : World Desk) → Invariant w → Invariant (turn desk t w)
+  unfolding turn after returned bufferAfter framed
   turn-keeps t w i =
-      let o = outcome (t .call) (length (t .buffer)) (w .desk) in
-      let step = outcome-step watch others (t .call) (length (t .buffer)) (w .desk) (w .alone) (w .standing) (i .known) in
+      let c = t .call in
+      let d = w .record-now in
+      let o = outcome c (length (t .buffer)) d in
+      let step = outcome-step watch others c (length (t .buffer)) d (w .alone) (i .wanted) in
+      let code : o .code ≡ step .by .code = ap (λ (x : Outcome (List ℕ)). x .code) (step .is) in
+      let desk-is : o .desk ≡ step .by .desk = ap (λ (x : Outcome (List ℕ)). x .desk) (step .is) in
+      let sent : o .sent ≡ framesOf (step .by .sent) = ap (λ (x : Outcome (List ℕ)). x .sent) (step .is) in
+      let alone : aloneAfter c (o .code) (w .alone) ≡ aloneAfter c (step .by .code) (w .alone) = ap (λ (n : ℕ). aloneAfter c n (w .alone)) code in
       record {
-        known = step .known;
+        wanted = subst (λ (x : Desk). Desired watch others x (aloneAfter c (o .code) (w .alone))) (sym desk-is) (subst (Desired watch others (step .by .desk)) (sym alone) (step .holds .desired));
         right =
-            frames-handed (o .commands) (drop (length (framesOf (o .commands))) (t .buffer)) (w .daemon) (due watch others (w .alone) (w .standing)) (step .sendable) (i .right)
-            ∙ ap some (step .obeyed);
+            ap (λ (l : List ℕ). handed (take (length l) (l ++ drop (length l) (t .buffer))) (w .daemon)) sent
+            ∙ frames-handed (step .by .sent) (drop (length (framesOf (step .by .sent))) (t .buffer)) (w .daemon) (due watch others (w .alone) d) (step .holds .sendable) (i .right)
+            ∙ ap some (step .holds .obeyed ∙ ap₂ (due watch others) (sym alone) (sym desk-is));
+        follows = ap (standingAfter c (o .code)) (i .follows) ∙ sym (outcome-follows c (length (t .buffer)) d);
       }
 
-  turns-keep : (ts : List Turn) (w : World) → Invariant w → Invariant (turns ts w)
+  turns-keep : (ts : List Turn) (w : World Desk) → Invariant w → Invariant (turns desk ts w)
   unfolding turns
   turns-keep [] w i = i
-  turns-keep (t ∷ ts) w i = turns-keep ts (turn t w) (turn-keeps t w i)
+  turns-keep (t ∷ ts) w i = turns-keep ts (turn desk t w) (turn-keeps t w i)
 
   -- it holds after an accepted opening
-  opening-known : (down up : ℤ) → length watch ≤ mostWatched → Known watch others (openedWith (length watch) watch down up) (atOpening watch down up others) 0
+  opening-wanted : (down up : ℤ) → length watch ≤ mostWatched → Desired watch others (openedWith (length watch) watch down up) (atOpening watch down up others)
   unfolding openedWith atOpening
-  opening-known down up few =
+  opening-wanted down up few =
       let used : take (length watch) (places mostWatched watch) ≡ watch = take-places mostWatched watch few in
-      record {
-        desired = record { ids = λ x. ap (has x) used; down = refl; up = refl; runs = λ x. ap (λ (l : List Watch). cond (has x watch) (marked x l) (others x)) (sym used) };
-        stands = refl;
-      }
+      record { ids = λ x. ap (has x) used; down = refl; up = refl; runs = λ x. ap (λ (l : List Watch). cond (has x watch) (marked x l) (others x)) (sym used) }
 
-  opening-invariant : (down up : ℤ) → opening (length watch) watch down up .code ≡ 0 → Invariant (afterOpening watch down up others)
-  unfolding afterOpening
+  opening-invariant : (down up : ℤ) → opening (length watch) watch down up .code ≡ 0 → Invariant (afterOpening desk watch down up others)
+  unfolding afterOpening openedWith
   opening-invariant down up h =
       let a = open-accepted watch down up h in
+      let m = atOpening watch down up others in
       record {
-        known = subst (λ (d : Desk). Known watch others d (atOpening watch down up others) 0) (sym (a .desk)) (opening-known down up (a .few));
-        right = refl;
+        wanted = subst (λ (d : Desk). Desired watch others d m) (sym (a .desk)) (opening-wanted down up (a .few));
+        right = ap (λ (d : Desk). some (due watch others m d)) (sym (a .desk));
+        follows = ap standing (sym (a .desk));
       }
+
+-- what the invariant says, by whether an override stands
+none-stands : (b : Bool) (x : ℕ) (m o : Machine) → none ≡ cond b (some x) none → cond b o m ≡ m
+none-stands true x m o e = absurd (Option·none-ne-some x e)
+none-stands false x m o e = refl
+
+one-stands : (b : Bool) (x y : ℕ) (m : Machine) (o : ℕ → Machine) → some y ≡ cond b (some x) none → cond b (o x) m ≡ o y
+one-stands true x y m o e = ap o (Option·some-injective x y (sym e))
+one-stands false x y m o e = absurd (Option·none-ne-some y (sym e))
 
 pub demand-3 : Demand3
 demand-3 watch down up others calls h =
-    turns-keep watch others calls (afterOpening watch down up others) (opening-invariant watch others down up h) .right
+    let w = turns desk calls (afterOpening desk watch down up others) in
+    let i = turns-keep watch others calls (afterOpening desk watch down up others) (opening-invariant watch others down up h) in
+    let d = w .record-now in (
+      λ e. i .right ∙ ap some (none-stands (stands d) (d .«override_id») (w .alone) (overridden watch others (d .«override_id»)) (sym e ∙ i .follows)),
+      λ x e. i .right ∙ ap some (one-stands (stands d) (d .«override_id») x (w .alone) (overridden watch others) (sym e ∙ i .follows)),
+    )

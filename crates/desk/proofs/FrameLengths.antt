@@ -7,7 +7,7 @@ use mathlib.Core.Bool.{Bool, true, _&&_}
 use mathlib.Core.List.{List, [], _∷_}
 use native.Mathlib.Omega.{arith}
 use borrow.Author.Tests.{leb-true}
-use lib.Dec.{leb}
+use lib.Dec.{leb, eqb}
 use lib.IntN.{ℤ, pos, negsuc}
 use lib.ListN.{length, length-append}
 use Rattle.bencode.specs.Numeral.{decimal, decimalBefore}
@@ -16,19 +16,15 @@ use Rattle.bencode.proofs.DigitLaws.{length-pos, length-below}
 use Rattle.bencode.proofs.PutParts.{integer-size}
 use Rattle.ipc.specs.declared.write.Given.{Given}
 use Rattle.ipc.specs.Ascii.{ascii}
-use Rattle.ipc.specs.Ids.{largestId}
+use Rattle.ipc.specs.Ids.{largestId, largestTag}
 use Rattle.ipc.specs.Keys.{keyText, classOf, listed}
 use Rattle.ipc.specs.Write.{encodeGiven, encodeTag, payloadOf}
 use Rattle.ipc.proofs.Inverts.{and-left, and-right}
 use Rattle.ipc.proofs.OutcomeLaws.{payload-length, frame-length}
 use Rattle.desk.specs.Limit.{isLimit}
-use Rattle.desk.specs.Watch.{mostWatched, isId}
-use Rattle.desk.specs.Command.{downlimitKey, startKey, stopKey, uplimitKey, values, idList, messageFrame, limitFrame, idsFrame, longest, LimitKey, ListKey}
-
--- is every number of a list a torrent ID
-unfoldable pub allIds : List ℕ → Bool
-allIds [] = true
-allIds (x ∷ xs) = isId x && allIds xs
+use Rattle.desk.specs.Watch.{mostWatched, isId, allIds}
+use Rattle.desk.specs.Command.{downlimitKey, startKey, stopKey, uplimitKey, values, idList, messageFrame, limitFrame, idsFrame, noTag, longest, LimitKey, ListKey}
+use Rattle.desk.proofs.Cases.{cond-cases}
 
 -- ---- integers
 pub limit-small : (n : ℤ) → isLimit n ≡ true → length (encode (integer n)) ≤ 9
@@ -69,42 +65,54 @@ unfolding values encodeAll
 items-some x xs = omega (arith, length-append (encode (integer (pos x))) (encodeAll (values xs)), id-some x)
 
 -- ---- frames
-message-length : (key : ℕ) (given : Given) (s : List ℕ) → length (messageFrame key given s) ≡ 10 + length (encodeString (keyText key)) + length (encodeGiven (classOf key) given s)
-unfolding messageFrame encodeTag
-message-length key given s = omega (arith, frame-length (payloadOf key given s 0), payload-length key given s 0)
+-- a tag, where there is one
+pub tag-small : (tag : ℕ) → tag ≤ largestTag → length (encodeTag tag) ≤ 12
+unfolding encodeTag
+tag-small tag h =
+    let digits : length (decimal tag) ≤ 10 = length-below 10 tag (omega arith) (omega arith) in
+    cond-cases (λ (l : List ℕ). length l ≤ 12) (eqb tag 0) (λ _. omega arith) (λ _. omega (arith, integer-size (pos tag), digits))
+
+pub no-tag : length (encodeTag noTag) ≡ 0
+unfolding encodeTag
+no-tag = refl
+
+message-length : (tag key : ℕ) (given : Given) (s : List ℕ) → length (messageFrame tag key given s) ≡ 10 + length (encodeString (keyText key)) + length (encodeGiven (classOf key) given s) + length (encodeTag tag)
+unfolding messageFrame
+message-length tag key given s = omega (arith, frame-length (payloadOf key given s tag), payload-length key given s tag)
 
 -- the four keys: their texts' lengths are computed
-pub down-length : (n : ℤ) → length (limitFrame downlimitKey n) ≡ 21 + length (encode (integer n))
+pub down-length : (tag : ℕ) (n : ℤ) → length (limitFrame tag downlimitKey n) ≡ 21 + length (encode (integer n)) + length (encodeTag tag)
 unfolding keyText classOf listed ascii encodeGiven decimal decimalBefore
-down-length n = message-length downlimitKey (Given.Integer n) []
+down-length tag n = message-length tag downlimitKey (Given.Integer n) []
 
-pub up-length : (n : ℤ) → length (limitFrame uplimitKey n) ≡ 19 + length (encode (integer n))
+pub up-length : (tag : ℕ) (n : ℤ) → length (limitFrame tag uplimitKey n) ≡ 19 + length (encode (integer n)) + length (encodeTag tag)
 unfolding keyText classOf listed ascii encodeGiven decimal decimalBefore
-up-length n = message-length uplimitKey (Given.Integer n) []
+up-length tag n = message-length tag uplimitKey (Given.Integer n) []
 
-pub start-length : (ids : List ℕ) → length (idsFrame startKey ids) ≡ 17 + length (idList ids)
+pub start-length : (tag : ℕ) (ids : List ℕ) → length (idsFrame tag startKey ids) ≡ 17 + length (idList ids) + length (encodeTag tag)
 unfolding keyText classOf listed ascii encodeGiven decimal decimalBefore
-start-length ids = message-length startKey Given.Bytes (idList ids)
+start-length tag ids = message-length tag startKey Given.Bytes (idList ids)
 
-pub stop-length : (ids : List ℕ) → length (idsFrame stopKey ids) ≡ 16 + length (idList ids)
+pub stop-length : (tag : ℕ) (ids : List ℕ) → length (idsFrame tag stopKey ids) ≡ 16 + length (idList ids) + length (encodeTag tag)
 unfolding keyText classOf listed ascii encodeGiven decimal decimalBefore
-stop-length ids = message-length stopKey Given.Bytes (idList ids)
+stop-length tag ids = message-length tag stopKey Given.Bytes (idList ids)
 
 -- ---- a frame of a request has room in the most bytes that a call writes
-pub limit-room : (key : ℕ) (n : ℤ) → LimitKey key → isLimit n ≡ true → length (limitFrame key n) ≤ longest
-limit-room key n k h =
-    ⊎-elim
-    (λ (q : key ≡ downlimitKey). rw q (omega (arith, down-length n, limit-small n h)))
-    (λ (q : key ≡ uplimitKey). rw q (omega (arith, up-length n, limit-small n h)))
-    k
+module _ (tag : ℕ) (small : tag ≤ largestTag) where
+  pub limit-room : (key : ℕ) (n : ℤ) → LimitKey key → isLimit n ≡ true → length (limitFrame tag key n) ≤ longest
+  limit-room key n k h =
+      ⊎-elim
+      (λ (q : key ≡ downlimitKey). rw q (omega (arith, down-length tag n, limit-small n h, tag-small tag small)))
+      (λ (q : key ≡ uplimitKey). rw q (omega (arith, up-length tag n, limit-small n h, tag-small tag small)))
+      k
 
-pub ids-room : (key : ℕ) (ids : List ℕ) → ListKey key → allIds ids ≡ true → length ids ≤ mostWatched → length (idsFrame key ids) ≤ longest
-ids-room key ids k h few =
-    ⊎-elim
-    (λ (q : key ≡ startKey). rw q (omega (arith, start-length ids, list-length ids, items-small ids h)))
-    (λ (q : key ≡ stopKey). rw q (omega (arith, stop-length ids, list-length ids, items-small ids h)))
-    k
+  pub ids-room : (key : ℕ) (ids : List ℕ) → ListKey key → allIds ids ≡ true → length ids ≤ mostWatched → length (idsFrame tag key ids) ≤ longest
+  ids-room key ids k h few =
+      ⊎-elim
+      (λ (q : key ≡ startKey). rw q (omega (arith, start-length tag ids, list-length ids, items-small ids h, tag-small tag small)))
+      (λ (q : key ≡ stopKey). rw q (omega (arith, stop-length tag ids, list-length ids, items-small ids h, tag-small tag small)))
+      k
 
-pub one-room : (key : ℕ) (x : ℕ) → ListKey key → isId x ≡ true → length (idsFrame key (x ∷ [])) ≤ longest
-unfolding allIds
-one-room key x k h = ids-room key (x ∷ []) k (rw h refl) (omega arith)
+  pub one-room : (key : ℕ) (x : ℕ) → ListKey key → isId x ≡ true → length (idsFrame tag key (x ∷ [])) ≤ longest
+  unfolding allIds
+  one-room key x k h = ids-room key (x ∷ []) k (rw h refl) (omega arith)

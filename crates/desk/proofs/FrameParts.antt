@@ -14,13 +14,13 @@ use Rattle.desk.specs.declared.record.Desk.{Desk}
 use Rattle.desk.specs.declared.lists.Pick.{Pick}
 use Rattle.desk.specs.declared.watch.Watch.{Watch}
 use Rattle.desk.specs.Limit.{unlimited}
-use Rattle.desk.specs.Watch.{has, picked, filtered, pickIds}
+use Rattle.desk.specs.Watch.{has, picked, filtered, pickIds, allIds}
 use Rattle.desk.specs.Record.{watched, sound}
-use Rattle.desk.specs.Command.{Command, downlimitKey, startKey, stopKey, uplimitKey, values, idList, limitFrame, idsFrame, commandFrame, framesOf, listing, listedFrame, longest}
-use Rattle.desk.specs.Call.{raiseCommands, clearCommands}
+use Rattle.desk.specs.Command.{Command, noTag, downlimitKey, startKey, stopKey, uplimitKey, values, idList, limitFrame, idsFrame, commandFrame, framesOf, listing, listedFrame, longest}
+use Rattle.desk.specs.Plan.{raiseCommands, clearCommands}
 use Rattle.desk.proofs.Cases.{by-cases}
 use Rattle.desk.proofs.CommandLaws.{FewIds, fourCommands, one-id}
-use Rattle.desk.proofs.FrameLengths.{allIds, limit-small, list-length, items-small, items-some, down-length, up-length, start-length, stop-length}
+use Rattle.desk.proofs.FrameLengths.{no-tag, limit-small, list-length, items-small, items-some, down-length, up-length, start-length, stop-length}
 use Rattle.desk.proofs.SoundLaws.{sound-parts, watched-length, pick-ids, pick-length, pick-both}
 use Rattle.desk.proofs.WatchLists.{has-id}
 
@@ -28,38 +28,38 @@ use Rattle.desk.proofs.WatchLists.{has-id}
 frames-append : (xs ys : List Command) → framesOf (xs ++ ys) ≡ framesOf xs ++ framesOf ys
 unfolding framesOf
 frames-append [] ys = refl
-frames-append (c ∷ xs) ys = ap (λ (l : List ℕ). commandFrame c ++ l) (frames-append xs ys) ∙ sym (append-assoc (commandFrame c) (framesOf xs) (framesOf ys))
+frames-append (c ∷ xs) ys = ap (λ (l : List ℕ). commandFrame noTag c ++ l) (frames-append xs ys) ∙ sym (append-assoc (commandFrame noTag c) (framesOf xs) (framesOf ys))
 
-stops-frame : (ids : List ℕ) → framesOf (listing Command.stop ids) ≡ listedFrame stopKey ids
+stops-frame : (ids : List ℕ) → framesOf (listing Command.stop ids) ≡ listedFrame noTag stopKey ids
 unfolding framesOf listing listedFrame commandFrame
 stops-frame [] = refl
-stops-frame (x ∷ xs) = append-nil (idsFrame stopKey (x ∷ xs))
+stops-frame (x ∷ xs) = append-nil (idsFrame noTag stopKey (x ∷ xs))
 
-starts-frame : (ids : List ℕ) → framesOf (listing Command.start ids) ≡ listedFrame startKey ids
+starts-frame : (ids : List ℕ) → framesOf (listing Command.start ids) ≡ listedFrame noTag startKey ids
 unfolding framesOf listing listedFrame commandFrame
 starts-frame [] = refl
-starts-frame (x ∷ xs) = append-nil (idsFrame startKey (x ∷ xs))
+starts-frame (x ∷ xs) = append-nil (idsFrame noTag startKey (x ∷ xs))
 
 abbrev pub fourParts : ℤ → ℤ → List ℕ → List ℕ → List (List ℕ)
-fourParts down up stops starts = limitFrame downlimitKey down ∷ limitFrame uplimitKey up ∷ listedFrame stopKey stops ∷ listedFrame startKey starts ∷ []
+fourParts down up stops starts = limitFrame noTag downlimitKey down ∷ limitFrame noTag uplimitKey up ∷ listedFrame noTag stopKey stops ∷ listedFrame noTag startKey starts ∷ []
 
 pub four-parts : (down up : ℤ) (stops starts : List ℕ) → flatten (fourParts down up stops starts) ≡ framesOf (fourCommands down up stops starts)
 unfolding flatten framesOf commandFrame
 four-parts down up stops starts =
-    let lists : listedFrame stopKey stops ++ (listedFrame startKey starts ++ []) ≡ framesOf (listing Command.stop stops ++ listing Command.start starts) =
-    ap₂ _++_ (sym (stops-frame stops)) (append-nil (listedFrame startKey starts) ∙ sym (starts-frame starts)) ∙ sym (frames-append (listing Command.stop stops) (listing Command.start starts)) in
-    ap (λ (l : List ℕ). limitFrame downlimitKey down ++ (limitFrame uplimitKey up ++ l)) lists
+    let lists : listedFrame noTag stopKey stops ++ (listedFrame noTag startKey starts ++ []) ≡ framesOf (listing Command.stop stops ++ listing Command.start starts) =
+    ap₂ _++_ (sym (stops-frame stops)) (append-nil (listedFrame noTag startKey starts) ∙ sym (starts-frame starts)) ∙ sym (frames-append (listing Command.stop stops) (listing Command.start starts)) in
+    ap (λ (l : List ℕ). limitFrame noTag downlimitKey down ++ (limitFrame noTag uplimitKey up ++ l)) lists
 
 -- ---- their lengths
-stops-length : (ids : List ℕ) → allIds ids ≡ true → length (listedFrame stopKey ids) ≤ 18 + 12 * length ids
+stops-length : (ids : List ℕ) → allIds ids ≡ true → length (listedFrame noTag stopKey ids) ≤ 18 + 12 * length ids
 unfolding listedFrame
 stops-length [] h = omega arith
-stops-length (x ∷ xs) h = omega (arith, stop-length (x ∷ xs), list-length (x ∷ xs), items-small (x ∷ xs) h)
+stops-length (x ∷ xs) h = omega (arith, stop-length noTag (x ∷ xs), list-length (x ∷ xs), items-small (x ∷ xs) h, no-tag)
 
-starts-length : (ids : List ℕ) → allIds ids ≡ true → length (listedFrame startKey ids) ≤ 19 + 12 * length ids
+starts-length : (ids : List ℕ) → allIds ids ≡ true → length (listedFrame noTag startKey ids) ≤ 19 + 12 * length ids
 unfolding listedFrame
 starts-length [] h = omega arith
-starts-length (x ∷ xs) h = omega (arith, start-length (x ∷ xs), list-length (x ∷ xs), items-small (x ∷ xs) h)
+starts-length (x ∷ xs) h = omega (arith, start-length noTag (x ∷ xs), list-length (x ∷ xs), items-small (x ∷ xs) h, no-tag)
 
 four-length : (down up : ℤ) (stops starts : List ℕ) → allIds stops ≡ true → allIds starts ≡ true
     → length (framesOf (fourCommands down up stops starts)) ≤ 77 + length (encode (integer down)) + length (encode (integer up)) + 12 * (length stops + length starts)
@@ -68,12 +68,13 @@ four-length down up stops starts p q =
     omega (
       arith,
       ap length (four-parts down up stops starts),
-      length-append (limitFrame downlimitKey down) (limitFrame uplimitKey up ++ (listedFrame stopKey stops ++ (listedFrame startKey starts ++ []))),
-      length-append (limitFrame uplimitKey up) (listedFrame stopKey stops ++ (listedFrame startKey starts ++ [])),
-      length-append (listedFrame stopKey stops) (listedFrame startKey starts ++ []),
-      length-append (listedFrame startKey starts) [],
-      down-length down,
-      up-length up,
+      length-append (limitFrame noTag downlimitKey down) (limitFrame noTag uplimitKey up ++ (listedFrame noTag stopKey stops ++ (listedFrame noTag startKey starts ++ []))),
+      length-append (limitFrame noTag uplimitKey up) (listedFrame noTag stopKey stops ++ (listedFrame noTag startKey starts ++ [])),
+      length-append (listedFrame noTag stopKey stops) (listedFrame noTag startKey starts ++ []),
+      length-append (listedFrame noTag startKey starts) [],
+      down-length noTag down,
+      up-length noTag up,
+      no-tag,
       stops-length stops p,
       starts-length starts q,
     )
@@ -127,12 +128,12 @@ module _ (d : Desk) (h : sound d ≡ true) (pick : Pick) where
   picked-room = omega (arith, list-length (pickIds pick (watched d)), items-small (pickIds pick (watched d)) (picked-few .0), picked-few .1)
 
 -- it holds nothing exactly where it is two bytes long
-pub listed-none : (key : ℕ) (ids : List ℕ) → length (idList ids) ≡ 2 → listedFrame key ids ≡ []
+pub listed-none : (tag key : ℕ) (ids : List ℕ) → length (idList ids) ≡ 2 → listedFrame tag key ids ≡ []
 unfolding listedFrame
-listed-none key [] h = refl
-listed-none key (x ∷ xs) h = let z : ⊥ = omega (arith, list-length (x ∷ xs), items-some x xs, h) in absurd z
+listed-none tag key [] h = refl
+listed-none tag key (x ∷ xs) h = let z : ⊥ = omega (arith, list-length (x ∷ xs), items-some x xs, h) in absurd z
 
-pub listed-some : (key : ℕ) (ids : List ℕ) → (length (idList ids) ≡ 2 → ⊥) → listedFrame key ids ≡ idsFrame key ids
+pub listed-some : (tag key : ℕ) (ids : List ℕ) → (length (idList ids) ≡ 2 → ⊥) → listedFrame tag key ids ≡ idsFrame tag key ids
 unfolding listedFrame idList values encode
-listed-some key [] h = absurd (h refl)
-listed-some key (x ∷ xs) h = refl
+listed-some tag key [] h = absurd (h refl)
+listed-some tag key (x ∷ xs) h = refl

@@ -2,11 +2,10 @@
 -- Assumes nothing.
 use Prim.Native.Nat.{ℕ, zero, suc, _+_, _≤_}
 use mathlib.Core.Path.{_≡_, refl, ap, _∙_}
-use mathlib.Core.Bool.{true, false}
+use mathlib.Core.Bool.{true, false, not}
 use mathlib.Core.List.{List, [], _∷_, flatten}
 use native.Mathlib.Omega.{arith}
-use borrow.Author.Tests.{le-leb}
-use lib.Dec.{eqb, leb}
+use lib.Dec.{eqb}
 use lib.IntN.{ℤ}
 use lib.ListN.{length, length-append}
 use Rattle.bencode.specs.Numeral.{decimal, decimalBefore}
@@ -23,73 +22,25 @@ use Rattle.desk.specs.Record.{watched, limitsSound, listSound, sound, op
 use Rattle.desk.specs.Opening.{openCode, opening}
 use Rattle.desk.specs.Command.{Command, downlimitKey, startKey, stopKey, uplimitKey, values, idList, messageFrame, commandFrame, framesOf, listing, longest}
 use Rattle.desk.specs.declared.calls.Call.{Call}
-use Rattle.desk.specs.Call.{Outcome, refused, sent, asked, limitCall, runningCall, raiseCall, clearCall, raiseCommands, clearCommands, outcome}
-use Rattle.desk.specs.Effect.{effect}
+use Rattle.desk.specs.Plan.{Outcome, deferred, deskAfter, raiseCommands, clearCommands, commandsOf, plan}
+use Rattle.desk.specs.Calls.{accepted, framed, outcome}
 use Rattle.desk.specs.Demands.{NoLonger, LongestReached}
 use Rattle.desk.proofs.Cases.{cond-cases}
-use Rattle.desk.proofs.FrameLengths.{limit-room, one-room}
-use Rattle.desk.proofs.FrameParts.{raise-length, clear-length}
-use Rattle.desk.proofs.SoundLaws.{sound-parts}
+use Rattle.desk.proofs.RefusalLaws.{Accepted, fault-none}
+use Rattle.desk.proofs.CallLaws.{Comes, outcome-sends, delivered-whole, outcome-cases}
+use Rattle.desk.proofs.PlanLaws.{commands-length}
 use Rattle.desk.proofs.AcceptedOpening.{opened-sound}
-use Rattle.desk.proofs.WatchLists.{has-id}
-use mathlib.Core.Logic.{inl, inr}
 
 -- ---- every call
-abbrev Short : Outcome → Type 0
-Short o = length (framesOf (o .commands)) ≤ longest
-
-module _ (room : ℕ) (d : Desk) where
-  refused-short : (code : ℕ) → Short (refused code d)
-  unfolding framesOf
-  refused-short code = omega arith
-
-  sent-short : (next : Desk) (cs : List Command) → length (framesOf cs) ≤ longest → Short (sent room d next cs)
-  unfolding sent
-  sent-short next cs h = cond-cases Short (leb (length (framesOf cs)) room) (λ _. h) (λ _. refused-short 34)
-
-  asked-short : (next : Desk) (c : Command) → length (commandFrame c) ≤ longest → Short (asked room d next c)
-  unfolding asked framesOf
-  asked-short next c h =
-      cond-cases Short (eqb (d .«override_id») 0)
-      (λ _. sent-short next (c ∷ []) (omega (arith, length-append (commandFrame c) [])))
-      (λ _. omega arith)
-
-  limit-short : (n : ℤ) (next : Desk) (c : Command) → (isLimit n ≡ true → length (commandFrame c) ≤ longest) → Short (limitCall room n d next c)
-  unfolding limitCall
-  limit-short n next c h = cond-cases Short (sound d) (λ _. cond-cases Short (isLimit n) (λ l. asked-short next c (h l)) (λ _. refused-short 30)) (λ _. refused-short 38)
-
-  running-short : (x : ℕ) (next : Desk) (c : Command) → (isId x ≡ true → length (commandFrame c) ≤ longest) → Short (runningCall room x d next c)
-  unfolding runningCall
-  running-short x next c h =
-      cond-cases Short (sound d)
-      (λ s. cond-cases Short (has x (watched d)) (λ k. asked-short next c (h (has-id x (watched d) (sound-parts d s .ids) k))) (λ _. refused-short 31))
-      (λ _. refused-short 38)
-
-  raise-short : (x : ℕ) → Short (raiseCall room x d)
-  unfolding raiseCall
-  raise-short x =
-      cond-cases Short (sound d)
-      (λ s.
-      cond-cases Short (eqb (d .«override_id») 0)
-      (λ _. cond-cases Short (has x (watched d)) (λ k. sent-short (withOverride x d) (raiseCommands x d) (raise-length d x s k)) (λ _. refused-short 31))
-      (λ _. refused-short 32))
-      (λ _. refused-short 38)
-
-  clear-short : Short (clearCall room d)
-  unfolding clearCall
-  clear-short =
-      cond-cases Short (sound d)
-      (λ s. cond-cases Short (eqb (d .«override_id») 0) (λ _. refused-short 33) (λ _. sent-short (withOverride 0 d) (clearCommands d) (clear-length d s)))
-      (λ _. refused-short 38)
+abbrev Short : Outcome (List Command) → Type 0
+Short o = length (framesOf (o .sent)) ≤ longest
 
 pub no-longer : NoLonger
-unfolding effect outcome commandFrame
-no-longer (Call.Down n) room d = limit-short room d n _ (Command.setDown n) (limit-room downlimitKey n (inl refl))
-no-longer (Call.Up n) room d = limit-short room d n _ (Command.setUp n) (limit-room uplimitKey n (inr refl))
-no-longer (Call.Start x) room d = running-short room d x _ (Command.start (x ∷ [])) (one-room startKey x (inl refl))
-no-longer (Call.Stop x) room d = running-short room d x _ (Command.stop (x ∷ [])) (one-room stopKey x (inr refl))
-no-longer (Call.Raise x) room d = raise-short room d x
-no-longer Call.Clear room d = clear-short room d
+unfolding plan framed framesOf
+no-longer c room d =
+    let k = outcome-cases Short c room d (λ _ _. omega arith)
+    (λ ok. cond-cases Short (deferred c d) (λ _. omega arith) (λ _. commands-length c d ok)) in
+    omega (arith, k .holds, ap (λ (o : Outcome (List ℕ)). length (o .sent)) (k .is))
 
 -- ---- a run whose clear is the longest: an opening with 32 of the largest IDs, of both marks, and both limits the largest, then a raise
 unfoldable countdown : ℕ → ℕ → List Watch
@@ -130,23 +81,28 @@ raised-clear : length (framesOf (clearCommands raised)) ≡ longest
 unfolding records countdown opening openCode openedWith withOverride places isLimit fault isId has clearCommands filtered listing framesOf commandFrame messageFrame frameOf payloadOf flatten hexHeader hexIn keyText classOf listed ascii encodeGiven encodeTag idList values encode decimal decimalBefore
 raised-clear = refl
 
-raise-accepted : (room : ℕ) → longest ≤ room → raiseCall room chosen first ≡ record { code = 0; desk = raised; commands = raiseCommands chosen first }
-unfolding raiseCall sent
-raise-accepted room h =
-    let none-stands : eqb (first .«override_id») 0 ≡ true = ap (λ n. eqb n 0) (chosen-watched .1) in
-    let fits : leb (length (framesOf (raiseCommands chosen first))) room ≡ true =
-    le-leb _ room (omega (arith, h, raise-length first chosen first-sound (chosen-watched .0))) in
-    rw (first-sound, none-stands, chosen-watched .0, fits) refl
+-- an accepted call that has room for the longest
+whole-outcome : (c : Call) (room : ℕ) (d : Desk) → Accepted c d → deferred c d ≡ false → longest ≤ room → outcome c room d ≡ accepted (deskAfter c d) (framesOf (commandsOf c d))
+whole-outcome c room d ok h fits =
+    outcome-sends c room d (fault-none c d ok) h
+    ∙ delivered-whole room d (deskAfter c d) (framesOf (commandsOf c d)) (omega (arith, fits, commands-length c d ok))
 
-clear-longest : (room : ℕ) → longest ≤ room → length (framesOf (clearCall room raised .commands)) ≡ longest
-unfolding clearCall sent
-clear-longest room h =
-    let fits : leb (length (framesOf (clearCommands raised))) room ≡ true = rw raised-clear (le-leb longest room h) in
-    let stands : eqb (raised .«override_id») 0 ≡ false = unfold withOverride in refl in
-    rw (raised-sound, stands, fits) raised-clear
+raise-accepted : (room : ℕ) → longest ≤ room → outcome (Call.Raise chosen) room first ≡ accepted raised (framesOf (raiseCommands chosen first))
+unfolding deskAfter commandsOf
+raise-accepted room h =
+    whole-outcome (Call.Raise chosen) room first
+    (record { is-sound = first-sound; first = ap (λ (x : ℕ). not (eqb x 0)) (chosen-watched .1); some-stands = refl; limit = refl; id = chosen-watched .0 })
+    refl h
+
+clear-accepted : (room : ℕ) → longest ≤ room → outcome Call.Clear room raised ≡ accepted (withOverride 0 raised) (framesOf (clearCommands raised))
+unfolding deskAfter commandsOf
+clear-accepted room h =
+    whole-outcome Call.Clear room raised
+    (record { is-sound = raised-sound; first = refl; some-stands = unfold withOverride in refl; limit = refl; id = refl })
+    refl h
 
 pub longest-reached : LongestReached
-unfolding records countdown effect outcome
+unfolding records countdown
 longest-reached = (
   records,
   largestLimit,
@@ -155,7 +111,9 @@ longest-reached = (
   refl,
   records-opened,
   λ room h. (
-    ap (λ (o : Outcome). o .code) (raise-accepted room h),
-    ap (λ (o : Outcome). length (framesOf (clearCall room (o .desk) .commands))) (raise-accepted room h) ∙ clear-longest room h,
+    ap (λ (o : Outcome (List ℕ)). o .code) (raise-accepted room h),
+    ap (λ (o : Outcome (List ℕ)). length (outcome Call.Clear room (o .desk) .sent)) (raise-accepted room h)
+        ∙ ap (λ (o : Outcome (List ℕ)). length (o .sent)) (clear-accepted room h)
+        ∙ raised-clear,
   ),
 )

@@ -1,6 +1,6 @@
 -- Opening: one law for each row of its table, and that the desk's places say the same as the list.
 -- Assumes nothing.
-use mathlib.Core.Path.{_≡_, refl, sym, _∙_}
+use mathlib.Core.Path.{_≡_, refl, sym, ap, _∙_}
 use Prim.Native.Nat.{ℕ, _<_, _≤_}
 use mathlib.Core.Bool.{Bool, true, false}
 use mathlib.Core.List.{List, []}
@@ -8,6 +8,7 @@ use borrow.Author.Tests.{ltb-true, ltb-false, lt-leb, le-leb, eq-eqb, ne-eqb}
 use lib.Dec.{ltb}
 use lib.IntN.{ℤ}
 use lib.ListN.{length, take}
+use lib.Seq.{length-take-le}
 use Rattle.desk.specs.declared.watch.Watch.{Watch}
 use Rattle.desk.specs.declared.record.Desk.{Desk}
 use Rattle.desk.specs.declared.opening.Opened.{Opened}
@@ -15,6 +16,7 @@ use Rattle.desk.specs.Limit.{isLimit}
 use Rattle.desk.specs.Watch.{padded, fault}
 use Rattle.desk.specs.Record.{openedWith}
 use Rattle.desk.specs.Opening.{openCode, refusedOpening, opening}
+use Rattle.desk.specs.Demands.{CountedOpening}
 use Rattle.desk.proofs.Places.{take-places}
 
 -- an accepted opening
@@ -50,3 +52,6 @@ opening-copied l d u = by-test (ltb 32 (length l)) refl
     by-test : (t : Bool) → ltb 32 (length l) ≡ t → opening (length l) (take (length l) (padded l)) d u ≡ opening (length l) l d u
     by-test true e = opening-over (length l) _ d u (ltb-true 32 _ e) ∙ sym (opening-over (length l) l d u (ltb-true 32 _ e))
     by-test false e = rw (take-places 32 l (ltb-false 32 _ e))
+
+pub counted-opening : CountedOpening
+counted-opening places count d u h = ap (λ (n : ℕ). opening n (take count places) d u) (sym (length-take-le count places h))

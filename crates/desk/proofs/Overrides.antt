@@ -10,7 +10,7 @@ use Rattle.desk.specs.declared.record.Desk.{Desk}
 use Rattle.desk.specs.Limit.{unlimited}
 use Rattle.desk.specs.Watch.{has, marked, filtered}
 use Rattle.desk.specs.Record.{watched}
-use Rattle.desk.specs.Call.{raiseCommands, clearCommands}
+use Rattle.desk.specs.Plan.{raiseCommands, clearCommands}
 use Rattle.desk.specs.Machine.{Machine, listed}
 use Rattle.desk.specs.Demands.{overridden}
 use Rattle.desk.proofs.Cases.{by-cases}

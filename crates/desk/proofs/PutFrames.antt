@@ -43,23 +43,23 @@ pub front-count : {bytes buffer : List ℕ} {n : ℕ} → Front bytes buffer n �
 front-count f = f .counted ∙ ap length (sym (f .front))
 
 -- ---- what the frame writer answers
-module _ (key : ℕ) (given : Given) (s : List ℕ) (w : Writable key given s) {before after : List ℕ} {r : Written} (room : length before ≡ longest)
-    (o : Outcome (writeAnswer key given s 0 (length before)) (payloadOf key given s 0) before r after) where
-  answer : r ≡ Written.Count (length (messageFrame key given s))
-  answer = o .answered ∙ ap (writeAnswer key given s 0) room ∙ w
+module _ (tag key : ℕ) (given : Given) (s : List ℕ) (w : Writable tag key given s) {before after : List ℕ} {r : Written} (room : length before ≡ longest)
+    (o : Outcome (writeAnswer key given s tag (length before)) (payloadOf key given s tag) before r after) where
+  answer : r ≡ Written.Count (length (messageFrame tag key given s))
+  answer = o .answered ∙ ap (writeAnswer key given s tag) room ∙ w
 
   pub never-refused : (code : ℕ) → r ≡ Written.Refused code → ⊥
   never-refused code e =
-      let q : Written.Refused code ≡ Written.Count (length (messageFrame key given s)) = sym e ∙ answer in
+      let q : Written.Refused code ≡ Written.Count (length (messageFrame tag key given s)) = sym e ∙ answer in
       let z : _≡_ {A = ℕ} 0 1 = cc in
       omega arith
 
-  pub frame-front : (n : ℕ) → r ≡ Written.Count n → Front (messageFrame key given s) after n
+  pub frame-front : (n : ℕ) → r ≡ Written.Count n → Front (messageFrame tag key given s) after n
   unfolding messageFrame
   frame-front n e =
-      let q : Written.Count n ≡ Written.Count (length (frameOf (payloadOf key given s 0))) = sym e ∙ answer in
-      let same : n ≡ length (frameOf (payloadOf key given s 0)) = cc in
-      front-of (frameOf (payloadOf key given s 0)) (drop (length (frameOf (payloadOf key given s 0))) before) after n same (o .buffer ∙ ap (λ (x : Written). bufferAfter x (frameOf (payloadOf key given s 0)) before) e)
+      let q : Written.Count n ≡ Written.Count (length (frameOf (payloadOf key given s tag))) = sym e ∙ answer in
+      let same : n ≡ length (frameOf (payloadOf key given s tag)) = cc in
+      front-of (frameOf (payloadOf key given s tag)) (drop (length (frameOf (payloadOf key given s tag))) before) after n same (o .buffer ∙ ap (λ (x : Written). bufferAfter x (frameOf (payloadOf key given s tag)) before) e)
 
 -- ---- nothing put
 pub put-nothing : (a : List ℕ) (i : ℕ) → Put a i [] a i

@@ -19,17 +19,18 @@ use Rattle.ipc.specs.declared.keys.Class.{Class}
 use Rattle.ipc.specs.declared.write.Given.{Given}
 use Rattle.ipc.specs.Answer.{Answer, Content, part, accepted}
 use Rattle.ipc.specs.Frame.{readFrame}
+use Rattle.ipc.specs.Ids.{largestTag}
 use Rattle.ipc.specs.Demands.{bytesNamed}
 use Rattle.ipc.specs.Keys.{listed as keys, classOf}
 use Rattle.ipc.specs.Write.{payloadOf}
 use Rattle.ipc.proofs.OutcomeLaws.{frame-length}
 use Rattle.ipc.proofs.ReadsBack.{reads-back}
 use Rattle.desk.specs.Limit.{isLimit}
-use Rattle.desk.specs.Command.{Command, downlimitKey, startKey, stopKey, uplimitKey, idList, messageFrame, limitFrame, idsFrame, commandFrame, framesOf, longest, LimitKey, ListKey}
+use Rattle.desk.specs.Command.{Command, noTag, downlimitKey, startKey, stopKey, uplimitKey, idList, messageFrame, limitFrame, idsFrame, commandFrame, framesOf, longest, LimitKey, ListKey}
 use Rattle.desk.specs.Machine.{Machine, obey, idsIn, limitCommand, idsCommand, contentCommand, commandIn, obeying, takes, handed}
 use Rattle.desk.proofs.Cases.{both}
 use Rattle.desk.proofs.CommandLaws.{FewIds, Sendable, AllSendable, obeyAll}
-use Rattle.desk.proofs.ReadsIds.{ids-back}
+use Rattle.desk.proofs.ReadsIds.{ids-read}
 use Rattle.desk.proofs.Writes.{limit-writable, ids-writable}
 
 limit-range : (n : ℤ) → isLimit n ≡ true → InRange n
@@ -55,69 +56,70 @@ unfolding idList encode
 list-bytes ids = omega arith
 
 -- ---- one frame: it is accepted, all of it is used, and its command is read
-pub record Reads (frame rest : List ℕ) (c : Command) : Type 0 where
+pub record Reads (tag : ℕ) (frame rest : List ℕ) (c : Command) : Type 0 where
   pub content : Content
   pub key : ℕ
-  pub answer : readFrame (frame ++ rest) ≡ accepted (length frame) key 0 content
+  pub answer : readFrame (frame ++ rest) ≡ accepted (length frame) key tag content
   pub command : contentCommand (frame ++ rest) key content ≡ some c
 
-limit-reads : (key : ℕ) (n : ℤ) (rest : List ℕ) (c : Command) → LimitKey key → isLimit n ≡ true → limitCommand key n ≡ some c
-    → Reads (limitFrame key n) rest c
-unfolding messageFrame contentCommand
-limit-reads key n rest c k h e =
-    let r = reads-back key 0 longest (length (limitFrame key n)) (Given.Integer n) [] rest (limit-range n h) (limit-writable key n k h) in
-    record {
-      content = r .0;
-      key = key;
-      answer = r .1;
-      command = ap (contentCommand (limitFrame key n ++ rest) key) (r .2) ∙ e;
-    }
+module _ (tag : ℕ) (small : tag ≤ largestTag) where
+  limit-reads : (key : ℕ) (n : ℤ) (rest : List ℕ) (c : Command) → LimitKey key → isLimit n ≡ true → limitCommand key n ≡ some c
+      → Reads tag (limitFrame tag key n) rest c
+  unfolding messageFrame contentCommand
+  limit-reads key n rest c k h e =
+      let r = reads-back key tag longest (length (limitFrame tag key n)) (Given.Integer n) [] rest (limit-range n h) (limit-writable tag small key n k h) in
+      record {
+        content = r .0;
+        key = key;
+        answer = r .1;
+        command = ap (contentCommand (limitFrame tag key n ++ rest) key) (r .2) ∙ e;
+      }
 
-ids-reads : (key : ℕ) (ids rest : List ℕ) (c : Command) → ListKey key → classOf key ≡ Class.IdList → FewIds ids → idsCommand key ids ≡ some c
-    → Reads (idsFrame key ids) rest c
-unfolding messageFrame contentCommand
-ids-reads key ids rest c k class h e =
-    let r = reads-back key 0 longest (length (idsFrame key ids)) Given.Bytes (idList ids) rest tt (ids-writable key ids k (h .0) (h .1)) in
-    let at = r .2 .0 in
-    let named : r .0 ≡ part at (length (idList ids)) = r .2 .1 ∙ ap (λ (f : Class). bytesNamed f at (length (idList ids))) class in
-    record {
-      content = r .0;
-      key = key;
-      answer = r .1;
-      command =
-          ap (contentCommand (idsFrame key ids ++ rest) key) named
-          ∙ ap (λ (l : List ℕ). idsCommand key (idsIn l)) (part-append (idsFrame key ids) rest (idList ids) at (list-bytes ids) (r .2 .2))
-          ∙ ap (idsCommand key) (ids-back ids (h .0))
-          ∙ e;
-    }
+  ids-reads : (key : ℕ) (ids rest : List ℕ) (c : Command) → ListKey key → classOf key ≡ Class.IdList → FewIds ids → idsCommand key ids ≡ some c
+      → Reads tag (idsFrame tag key ids) rest c
+  unfolding messageFrame contentCommand
+  ids-reads key ids rest c k class h e =
+      let r = reads-back key tag longest (length (idsFrame tag key ids)) Given.Bytes (idList ids) rest tt (ids-writable tag small key ids k (h .0) (h .1)) in
+      let at = r .2 .0 in
+      let named : r .0 ≡ part at (length (idList ids)) = r .2 .1 ∙ ap (λ (f : Class). bytesNamed f at (length (idList ids))) class in
+      record {
+        content = r .0;
+        key = key;
+        answer = r .1;
+        command =
+            ap (contentCommand (idsFrame tag key ids ++ rest) key) named
+            ∙ ap (λ (l : List ℕ). idsCommand key (idsIn l)) (part-append (idsFrame tag key ids) rest (idList ids) at (list-bytes ids) (r .2 .2))
+            ∙ ap (idsCommand key) (ids-read ids (h .0))
+            ∙ e;
+      }
 
-pub command-reads : (c : Command) (rest : List ℕ) → Sendable c → Reads (commandFrame c) rest c
-unfolding commandFrame limitCommand idsCommand classOf keys
-command-reads (Command.setDown n) rest h = limit-reads downlimitKey n rest (Command.setDown n) (inl refl) h refl
-command-reads (Command.setUp n) rest h = limit-reads uplimitKey n rest (Command.setUp n) (inr refl) h refl
-command-reads (Command.start ids) rest h = ids-reads startKey ids rest (Command.start ids) (inl refl) refl h refl
-command-reads (Command.stop ids) rest h = ids-reads stopKey ids rest (Command.stop ids) (inr refl) refl h refl
+  pub command-reads : (c : Command) (rest : List ℕ) → Sendable c → Reads tag (commandFrame tag c) rest c
+  unfolding commandFrame limitCommand idsCommand classOf keys
+  command-reads (Command.setDown n) rest h = limit-reads downlimitKey n rest (Command.setDown n) (inl refl) h refl
+  command-reads (Command.setUp n) rest h = limit-reads uplimitKey n rest (Command.setUp n) (inr refl) h refl
+  command-reads (Command.start ids) rest h = ids-reads startKey ids rest (Command.start ids) (inl refl) refl h refl
+  command-reads (Command.stop ids) rest h = ids-reads stopKey ids rest (Command.stop ids) (inr refl) refl h refl
 
 -- a frame has its header at least
-pub command-length : (c : Command) → 8 ≤ length (commandFrame c)
+pub command-length : (tag : ℕ) (c : Command) → 8 ≤ length (commandFrame tag c)
 unfolding commandFrame messageFrame
-command-length (Command.setDown n) = omega (arith, frame-length (payloadOf downlimitKey (Given.Integer n) [] 0))
-command-length (Command.setUp n) = omega (arith, frame-length (payloadOf uplimitKey (Given.Integer n) [] 0))
-command-length (Command.start ids) = omega (arith, frame-length (payloadOf startKey Given.Bytes (idList ids) 0))
-command-length (Command.stop ids) = omega (arith, frame-length (payloadOf stopKey Given.Bytes (idList ids) 0))
+command-length tag (Command.setDown n) = omega (arith, frame-length (payloadOf downlimitKey (Given.Integer n) [] tag))
+command-length tag (Command.setUp n) = omega (arith, frame-length (payloadOf uplimitKey (Given.Integer n) [] tag))
+command-length tag (Command.start ids) = omega (arith, frame-length (payloadOf startKey Given.Bytes (idList ids) tag))
+command-length tag (Command.stop ids) = omega (arith, frame-length (payloadOf stopKey Given.Bytes (idList ids) tag))
 
 -- ---- all frames
 -- the first frame is taken, and then the rest
 takes-one : (k : ℕ) (c : Command) (rest : List ℕ) (m : Machine) → Sendable c
-    → takes (suc k) (commandFrame c ++ rest) m ≡ takes k rest (obey c m)
+    → takes (suc k) (commandFrame noTag c ++ rest) m ≡ takes k rest (obey c m)
 unfolding takes commandIn obeying
 takes-one k c rest m h =
-    let s = commandFrame c ++ rest in
-    let r = command-reads c rest h in
-    let more : eqb (length s) 0 ≡ false = ne-eqb (length s) 0 (λ e. omega (arith, command-length c, length-append (commandFrame c) rest)) in
+    let s = commandFrame noTag c ++ rest in
+    let r = command-reads noTag (omega arith) c rest h in
+    let more : eqb (length s) 0 ≡ false = ne-eqb (length s) 0 (λ e. omega (arith, command-length noTag c, length-append (commandFrame noTag c) rest)) in
     let read : commandIn s (readFrame s) ≡ some c = ap (commandIn s) (r .answer) ∙ r .command in
-    let used : readFrame s .consumed ≡ length (commandFrame c) = ap (λ (a : Answer). a .consumed) (r .answer) in
-    let left : drop (readFrame s .consumed) s ≡ rest = ap (λ (n : ℕ). drop n s) used ∙ drop-append-seam (commandFrame c) rest in
+    let used : readFrame s .consumed ≡ length (commandFrame noTag c) = ap (λ (a : Answer). a .consumed) (r .answer) in
+    let left : drop (readFrame s .consumed) s ≡ rest = ap (λ (n : ℕ). drop n s) used ∙ drop-append-seam (commandFrame noTag c) rest in
     ap (λ b. cond b (some m) (obeying (commandIn s (readFrame s)) m (takes k (drop (readFrame s .consumed) s)))) more
     ∙ ap₂ (λ (o : Option Command) (l : List ℕ). obeying o m (takes k l)) read left
 
@@ -126,11 +128,11 @@ pub takes-all : (cs : List Command) (k : ℕ) (m : Machine) → AllSendable cs �
 unfolding takes framesOf obeyAll
 takes-all [] k m h few = refl
 takes-all (c ∷ cs) zero m h few =
-    let impossible : ⊥ = omega (arith, command-length c, length-append (commandFrame c) (framesOf cs)) in
+    let impossible : ⊥ = omega (arith, command-length noTag c, length-append (commandFrame noTag c) (framesOf cs)) in
     absurd impossible
 takes-all (c ∷ cs) (suc k) m h few =
     takes-one (suc k) c (framesOf cs) m (h .0)
-    ∙ takes-all cs k (obey c m) (h .1) (omega (arith, command-length c, length-append (commandFrame c) (framesOf cs)))
+    ∙ takes-all cs k (obey c m) (h .1) (omega (arith, command-length noTag c, length-append (commandFrame noTag c) (framesOf cs)))
 
 -- the daemon is handed the first bytes of a buffer that begins with the frames
 pub frames-handed : (cs : List Command) (rest : List ℕ) (o : Option Machine) (m : Machine) → AllSendable cs → o ≡ some m

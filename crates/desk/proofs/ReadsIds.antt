@@ -18,11 +18,11 @@ use Rattle.bencode.proofs.Encodings.{values-text}
 use Rattle.bencode.proofs.IntegerLaws.{integer-other}
 use Rattle.bencode.proofs.Lookups.{reads-integer}
 use Rattle.ipc.specs.Ids.{largestId}
-use Rattle.desk.specs.Watch.{isId}
+use Rattle.desk.specs.Watch.{isId, allIds}
 use Rattle.desk.specs.Command.{values, idList}
 use Rattle.desk.specs.Machine.{idsFrom, idsIn}
+use Rattle.desk.specs.Demands.{IdsRead}
 use Rattle.desk.proofs.Cases.{both}
-use Rattle.desk.proofs.FrameLengths.{allIds}
 
 id-range : (x : ℕ) → isId x ≡ true → InRange (pos x)
 unfolding isId
@@ -52,22 +52,22 @@ module _ (s : List ℕ) where
       let byte : byteAt s at ≡ 101 = begins-head s at 101 e [] b in
       ap (idsFrom (suc more) s) (sym (integer-other s at (λ q. omega arith)))
 
-  ids-read : (ids : List ℕ) (more at e : ℕ) → allIds ids ≡ true → length ids ≤ more → Begins s at (encodeAll (values ids) ++ (101 ∷ [])) e
+  items-read : (ids : List ℕ) (more at e : ℕ) → allIds ids ≡ true → length ids ≤ more → Begins s at (encodeAll (values ids) ++ (101 ∷ [])) e
       → idsFrom more s (integerAt s at) ≡ ids
   unfolding idsFrom allIds values encode
-  ids-read [] more at e h few b = ids-end more at e b
-  ids-read (x ∷ xs) zero at e h few b = let impossible : ⊥ = omega arith in absurd impossible
-  ids-read (x ∷ xs) (suc more) at e h few b =
+  items-read [] more at e h few b = ids-end more at e b
+  items-read (x ∷ xs) zero at e h few b = let impossible : ⊥ = omega arith in absurd impossible
+  items-read (x ∷ xs) (suc more) at e h few b =
       let k = both (isId x) _ h in
       let v = integer (pos x) in
       let c = subst (λ (l : List ℕ). Begins s at l e) (values-text v (values xs)) b in
       let first = begins-left s at e (encode v) (encodeAll (values xs) ++ (101 ∷ [])) c in
       let rest = begins-right s at e (encode v) (encodeAll (values xs) ++ (101 ∷ [])) c in
       ap (idsFrom (suc more) s) (reads-integer Profile.Loose 0 v s at (at + length (encode v)) (id-range x (k .0)) first)
-      ∙ ap (λ (l : List ℕ). x ∷ l) (ids-read xs more (at + length (encode v)) e (k .1) (omega arith) rest)
+      ∙ ap (λ (l : List ℕ). x ∷ l) (items-read xs more (at + length (encode v)) e (k .1) (omega arith) rest)
 
-pub ids-back : (ids : List ℕ) → allIds ids ≡ true → idsIn (idList ids) ≡ ids
+pub ids-read : IdsRead
 unfolding idsIn idList encode
-ids-back ids h =
-    ids-read (idList ids) ids (length (idList ids)) 1 (length (idList ids)) h (list-length ids)
+ids-read ids h =
+    items-read (idList ids) ids (length (idList ids)) 1 (length (idList ids)) h (list-length ids)
     (record { rest = []; is = sym (append-nil (encodeAll (values ids) ++ (101 ∷ []))); ends = omega arith })

@@ -5,95 +5,75 @@ use native.Mathlib.Omega.{arith}
 use mathlib.Core.Path.{_≡_, refl, sym, ap, _∙_}
 use mathlib.Core.Bool.{true, false, cond}
 use mathlib.Core.List.{List, [], _∷_, _++_}
-use lib.Dec.{leb, eqb}
+use lib.Dec.{eqb}
+use borrow.Author.Tests.{ne-eqb}
 use lib.IntN.{ℤ}
 use lib.ListN.{length, drop}
 use Rattle.desk.specs.declared.record.Desk.{Desk}
-use Rattle.desk.specs.Limit.{isLimit}
-use Rattle.desk.specs.Watch.{has}
-use Rattle.desk.specs.Record.{watched, sound, closed, openedWith, withDown, withUp, withOverride, withRunning}
+use Rattle.desk.specs.Record.{closed, openedWith, withDown, withUp, withOverride, withRunning}
 use Rattle.desk.specs.Opening.{openCode, refusedOpening, opening}
 use Rattle.desk.specs.Command.{Command, framesOf}
+use Rattle.desk.specs.Refusal.{stands}
 use Rattle.desk.specs.declared.calls.Call.{Call}
-use Rattle.desk.specs.Call.{Outcome, outcome, refused, sent, asked, limitCall, runningCall, raiseCall, clearCall, raiseCommands, clearCommands}
-use Rattle.desk.specs.Effect.{effect, returned, bufferAfter}
-use Rattle.desk.specs.Demands.{overrideAfter, standingAfter, RefusalKeeps, RefusalCloses, OverrideMoves}
+use Rattle.desk.specs.Plan.{Outcome, deskAfter, plan}
+use Rattle.desk.specs.Calls.{framed, outcome, returned, bufferAfter}
+use Rattle.desk.specs.Demands.{overrideAfter, RefusalKeeps, RefusalCloses, OverrideMoves}
 use Rattle.desk.proofs.Cases.{by-cases, cond-cases}
+use Rattle.desk.proofs.CallLaws.{Comes, outcome-cases}
 
-module _ (c : Call) (room : ℕ) (d : Desk) where
-  -- an outcome that keeps the record where it refuses, and moves the override where it is accepted
-  record Kept (o : Outcome) : Type 0 where
-    desk : 2 ≤ o .code → o .desk ≡ d
-    commands : 2 ≤ o .code → o .commands ≡ []
-    override : o .desk .«override_id» ≡ standingAfter c (o .code) (d .«override_id»)
+-- an outcome that keeps the record where it refuses, and moves the override where it is accepted
+record Kept (c : Call) (d : Desk) (o : Outcome (List Command)) : Type 0 where
+  desk : 2 ≤ o .code → o .desk ≡ d
+  sent : 2 ≤ o .code → o .sent ≡ []
+  override : o .desk .«override_id» ≡ overrideAfter c (o .code) (d .«override_id»)
 
-  refused-kept : (n : ℕ) → eqb n 0 ≡ false → Kept (refused n d)
-  unfolding standingAfter
-  refused-kept n more = record {
-    desk = λ _. refl;
-    commands = λ _. refl;
-    override = ap (λ b. cond b (overrideAfter c (d .«override_id»)) (d .«override_id»)) (sym more);
-  }
+refused-override : (c : Call) (n id : ℕ) → 2 ≤ n → id ≡ overrideAfter c n id
+unfolding overrideAfter
+refused-override (Call.Down m) n id h = refl
+refused-override (Call.Up m) n id h = refl
+refused-override (Call.Start x) n id h = refl
+refused-override (Call.Stop x) n id h = refl
+refused-override (Call.Raise x) n id h = ap (λ b. cond b x id) (sym (ne-eqb n 0 (λ e. omega arith)))
+refused-override Call.Clear n id h = ap (λ b. cond b 0 id) (sym (ne-eqb n 0 (λ e. omega arith)))
 
-  sent-kept : (next : Desk) (cs : List Command) → next .«override_id» ≡ overrideAfter c (d .«override_id») → Kept (sent room d next cs)
-  unfolding sent standingAfter
-  sent-kept next cs k =
-      cond-cases Kept (leb (length (framesOf cs)) room)
-      (λ _. record { desk = λ e. absurd (omega arith); commands = λ e. absurd (omega arith); override = k })
-      (λ _. refused-kept 34 refl)
+moves : (c : Call) (d : Desk) (n : ℕ) (next : Desk) (cs : List Command) → n ≤ 1 → next .«override_id» ≡ overrideAfter c n (d .«override_id»)
+    → Kept c d (record { code = n; desk = next; sent = cs })
+moves c d n next cs small o = record { desk = λ h. absurd (omega arith); sent = λ h. absurd (omega arith); override = o }
 
-  asked-kept : (next : Desk) (a : Command) → next .«override_id» ≡ d .«override_id»
-      → overrideAfter c (d .«override_id») ≡ d .«override_id» → Kept (asked room d next a)
-  unfolding asked standingAfter
-  asked-kept next a k same =
-      cond-cases Kept (eqb (d .«override_id») 0)
-      (λ _. sent-kept next (a ∷ []) (k ∙ sym same))
-      (λ _. record { desk = λ e. absurd (omega arith); commands = λ e. absurd (omega arith); override = k })
+-- an accepted call, by its code: 1 for a deferred one
+plan-kept : (c : Call) (d : Desk) → Kept c d (plan c d)
+unfolding plan deskAfter overrideAfter withDown withUp withRunning withOverride
+plan-kept (Call.Down n) d = cond-cases (Kept (Call.Down n) d) (stands d) (λ _. moves (Call.Down n) d 1 _ _ (omega arith) refl) (λ _. moves (Call.Down n) d 0 _ _ (omega arith) refl)
+plan-kept (Call.Up n) d = cond-cases (Kept (Call.Up n) d) (stands d) (λ _. moves (Call.Up n) d 1 _ _ (omega arith) refl) (λ _. moves (Call.Up n) d 0 _ _ (omega arith) refl)
+plan-kept (Call.Start x) d = cond-cases (Kept (Call.Start x) d) (stands d) (λ _. moves (Call.Start x) d 1 _ _ (omega arith) refl) (λ _. moves (Call.Start x) d 0 _ _ (omega arith) refl)
+plan-kept (Call.Stop x) d = cond-cases (Kept (Call.Stop x) d) (stands d) (λ _. moves (Call.Stop x) d 1 _ _ (omega arith) refl) (λ _. moves (Call.Stop x) d 0 _ _ (omega arith) refl)
+plan-kept (Call.Raise x) d = moves (Call.Raise x) d 0 _ _ (omega arith) refl
+plan-kept Call.Clear d = moves Call.Clear d 0 _ _ (omega arith) refl
 
-  limit-kept : (n : ℤ) (next : Desk) (a : Command) → next .«override_id» ≡ d .«override_id»
-      → overrideAfter c (d .«override_id») ≡ d .«override_id» → Kept (limitCall room n d next a)
-  unfolding limitCall
-  limit-kept n next a k same =
-      cond-cases Kept (sound d) (λ _. cond-cases Kept (isLimit n) (λ _. asked-kept next a k same) (λ _. refused-kept 30 refl)) (λ _. refused-kept 38 refl)
-
-  running-kept : (x : ℕ) (next : Desk) (a : Command) → next .«override_id» ≡ d .«override_id»
-      → overrideAfter c (d .«override_id») ≡ d .«override_id» → Kept (runningCall room x d next a)
-  unfolding runningCall
-  running-kept x next a k same =
-      cond-cases Kept (sound d) (λ _. cond-cases Kept (has x (watched d)) (λ _. asked-kept next a k same) (λ _. refused-kept 31 refl)) (λ _. refused-kept 38 refl)
-
-outcome-kept : (c : Call) (room : ℕ) (d : Desk) → Kept c room d (outcome c room d)
-unfolding outcome raiseCall clearCall overrideAfter withDown withUp withRunning withOverride
-outcome-kept (Call.Down n) room d = limit-kept (Call.Down n) room d n (withDown n d) (Command.setDown n) refl refl
-outcome-kept (Call.Up n) room d = limit-kept (Call.Up n) room d n (withUp n d) (Command.setUp n) refl refl
-outcome-kept (Call.Start x) room d = running-kept (Call.Start x) room d x (withRunning x true d) (Command.start (x ∷ [])) refl refl
-outcome-kept (Call.Stop x) room d = running-kept (Call.Stop x) room d x (withRunning x false d) (Command.stop (x ∷ [])) refl refl
-outcome-kept (Call.Raise x) room d =
-    let K = Kept (Call.Raise x) room d in
-    let refuse = refused-kept (Call.Raise x) room d in
-    cond-cases K (sound d)
-    (λ _.
-    cond-cases K (eqb (d .«override_id») 0)
-    (λ _. cond-cases K (has x (watched d)) (λ _. sent-kept (Call.Raise x) room d (withOverride x d) (raiseCommands x d) refl) (λ _. refuse 31 refl))
-    (λ _. refuse 32 refl))
-    (λ _. refuse 38 refl)
-outcome-kept Call.Clear room d =
-    let K = Kept Call.Clear room d in
-    let refuse = refused-kept Call.Clear room d in
-    cond-cases K (sound d)
-    (λ _. cond-cases K (eqb (d .«override_id») 0) (λ _. refuse 33 refl) (λ _. sent-kept Call.Clear room d (withOverride 0 d) (clearCommands d) refl))
-    (λ _. refuse 38 refl)
+outcome-kept : (c : Call) (room : ℕ) (d : Desk) → Comes (Kept c d) c room d
+outcome-kept c room d =
+    outcome-cases (Kept c d) c room d
+    (λ n k. record { desk = λ _. refl; sent = λ _. refl; override = refused-override c n (d .«override_id») (k .large) })
+    (λ _. plan-kept c d)
 
 pub refusal-keeps : RefusalKeeps
-unfolding effect returned bufferAfter framesOf
+unfolding framed returned bufferAfter framesOf
 refusal-keeps c before d h =
     let k = outcome-kept c (length before) d in
-    let nothing = ap framesOf (k .commands h) in
-    (k .desk h, ap length nothing, ap (λ (l : List ℕ). l ++ drop (length l) before) nothing)
+    let refused : 2 ≤ k .by .code = omega (arith, h, ap (λ (o : Outcome (List ℕ)). o .code) (k .is)) in
+    let nothing : outcome c (length before) d .sent ≡ [] = ap (λ (o : Outcome (List ℕ)). o .sent) (k .is) ∙ ap framesOf (k .holds .sent refused) in (
+      ap (λ (o : Outcome (List ℕ)). o .desk) (k .is) ∙ k .holds .desk refused,
+      ap length nothing,
+      ap (λ (l : List ℕ). l ++ drop (length l) before) nothing,
+    )
 
 pub override-moves : OverrideMoves
-unfolding effect
-override-moves c room d = outcome-kept c room d .override
+unfolding framed
+override-moves c room d =
+    let k = outcome-kept c room d in
+    ap (λ (o : Outcome (List ℕ)). o .desk .«override_id») (k .is)
+    ∙ k .holds .override
+    ∙ ap (λ (n : ℕ). overrideAfter c n (d .«override_id»)) (sym (ap (λ (o : Outcome (List ℕ)). o .code) (k .is)))
 
 pub refusal-closes : RefusalCloses
 unfolding opening refusedOpening

@@ -11,11 +11,10 @@ use borrow.Author.Tests.{eqb-true, leb-true, le-leb}
 use Rattle.desk.specs.declared.watch.Watch.{Watch}
 use Rattle.desk.specs.declared.record.Desk.{Desk}
 use Rattle.desk.specs.Limit.{isLimit}
-use Rattle.desk.specs.Watch.{mostWatched, has, fault, unused, filtered}
+use Rattle.desk.specs.Watch.{mostWatched, has, fault, unused, filtered, allIds}
 use Rattle.desk.specs.Record.{watched, limitsSound, listSound, sound}
 use Rattle.desk.proofs.Cases.{by-cases, both, and-true}
 use Rattle.desk.proofs.WatchLists.{idsOk, ids-cons, fault-ids, ids-fault}
-use Rattle.desk.proofs.FrameLengths.{allIds}
 
 -- ---- a sound record
 pub record Sound (d : Desk) : Type 0 where

@@ -13,15 +13,17 @@ use Rattle.desk.specs.declared.record.Desk.{Desk}
 use Rattle.desk.specs.Limit.{isLimit}
 use Rattle.desk.specs.Watch.{has, place, unused}
 use Rattle.desk.specs.Record.{watched, sound, withDown, withUp, withOverride, withRunning}
-use Rattle.desk.specs.Command.{Command, framesOf}
+use Rattle.desk.specs.Command.{Command}
 use Rattle.desk.specs.declared.calls.Call.{Call}
-use Rattle.desk.specs.Call.{Outcome, outcome, refused, sent, asked, limitCall, runningCall, raiseCall, clearCall, raiseCommands, clearCommands}
-use Rattle.desk.specs.Effect.{effect}
-use Rattle.desk.specs.Demands.{Turn, World, after, turn, turns, afterOpening, NeverBadRecord}
+use Rattle.desk.specs.Plan.{Outcome, deferred, deskAfter, plan}
+use Rattle.desk.specs.Calls.{framed, outcome, returned}
+use Rattle.desk.specs.Demands.{desk, Turn, World, after, turn, turns, afterOpening, NeverBadRecord}
 use Rattle.desk.proofs.Cases.{cond-cases}
 use Rattle.desk.proofs.WatchLists.{entry, has-set, place-below, idsOk, ids-set}
 use Rattle.desk.proofs.SoundLaws.{Sound, sound-parts, parts-sound}
 use Rattle.desk.proofs.AcceptedOpening.{opened-sound}
+use Rattle.desk.proofs.RefusalLaws.{Accepted}
+use Rattle.desk.proofs.CallLaws.{Comes, outcome-cases}
 
 -- ---- the record with a change
 running-sound : (d : Desk) (x : ℕ) (on : Bool) → Sound d → has x (watched d) ≡ true → Sound (withRunning x on d)
@@ -55,71 +57,43 @@ unfolding withUp
 up-sound d n p k = record { is-open = p .is-open; few = p .few; down = p .down; up = k; ids = p .ids; zeros = p .zeros; override = p .override }
 
 -- ---- a call: the record after it is sound, and its code is not 38
-record KeepsSound (o : Outcome) : Type 0 where
+record KeepsSound (o : Outcome (List Command)) : Type 0 where
   stays : sound (o .desk) ≡ true
   code : o .code ≡ 38 → ⊥
 
-module _ (room : ℕ) (d : Desk) (h : sound d ≡ true) where
-  refused-keeps : (n : ℕ) → (n ≡ 38 → ⊥) → KeepsSound (refused n d)
-  refused-keeps n k = record { stays = h; code = k }
+accepted-sound : (c : Call) (d : Desk) → Accepted c d → Sound (deskAfter c d)
+unfolding deskAfter
+accepted-sound (Call.Down n) d ok = down-sound d n (sound-parts d (ok .is-sound)) (ok .limit)
+accepted-sound (Call.Up n) d ok = up-sound d n (sound-parts d (ok .is-sound)) (ok .limit)
+accepted-sound (Call.Start x) d ok = running-sound d x true (sound-parts d (ok .is-sound)) (ok .id)
+accepted-sound (Call.Stop x) d ok = running-sound d x false (sound-parts d (ok .is-sound)) (ok .id)
+accepted-sound (Call.Raise x) d ok = override-sound d x (sound-parts d (ok .is-sound)) (ap (λ b. eqb x 0 || b) (ok .id) ∙ or-true (eqb x 0))
+accepted-sound Call.Clear d ok = override-sound d 0 (sound-parts d (ok .is-sound)) refl
 
-  -- a record that is sound is not refused with 38
-  sound-keeps : (o : Outcome) → KeepsSound o → KeepsSound (cond (sound d) o (refused 38 d))
-  sound-keeps o f = cond-cases KeepsSound (sound d) (λ _. f) (λ e. absurd (false≢true (sym e ∙ h)))
+plan-keeps : (c : Call) (d : Desk) → Accepted c d → KeepsSound (plan c d)
+unfolding plan
+plan-keeps c d ok =
+    let stays = parts-sound (deskAfter c d) (accepted-sound c d ok) in
+    cond-cases KeepsSound (deferred c d)
+    (λ _. record { stays = stays; code = λ e. omega arith })
+    (λ _. record { stays = stays; code = λ e. omega arith })
 
-  sent-keeps : (next : Desk) (cs : List Command) → Sound next → KeepsSound (sent room d next cs)
-  unfolding sent
-  sent-keeps next cs k =
-      cond-cases KeepsSound (leb (length (framesOf cs)) room)
-      (λ _. record { stays = parts-sound next k; code = λ e. omega arith })
-      (λ _. refused-keeps 34 (λ e. omega arith))
-
-  asked-keeps : (next : Desk) (c : Command) → Sound next → KeepsSound (asked room d next c)
-  unfolding asked
-  asked-keeps next c k =
-      cond-cases KeepsSound (eqb (d .«override_id») 0)
-      (λ _. sent-keeps next (c ∷ []) k)
-      (λ _. record { stays = parts-sound next k; code = λ e. omega arith })
-
-  limit-keeps : (n : ℤ) (next : Desk) (c : Command) → (isLimit n ≡ true → Sound next) → KeepsSound (limitCall room n d next c)
-  unfolding limitCall
-  limit-keeps n next c k = sound-keeps _ (cond-cases KeepsSound (isLimit n) (λ e. asked-keeps next c (k e)) (λ _. refused-keeps 30 (λ e. omega arith)))
-
-  running-keeps : (x : ℕ) (next : Desk) (c : Command) → (has x (watched d) ≡ true → Sound next) → KeepsSound (runningCall room x d next c)
-  unfolding runningCall
-  running-keeps x next c k = sound-keeps _ (cond-cases KeepsSound (has x (watched d)) (λ e. asked-keeps next c (k e)) (λ _. refused-keeps 31 (λ e. omega arith)))
-
-  outcome-keeps : (c : Call) → KeepsSound (outcome c room d)
-  unfolding outcome raiseCall clearCall
-  outcome-keeps (Call.Down n) = limit-keeps n (withDown n d) (Command.setDown n) (down-sound d n (sound-parts d h))
-  outcome-keeps (Call.Up n) = limit-keeps n (withUp n d) (Command.setUp n) (up-sound d n (sound-parts d h))
-  outcome-keeps (Call.Start x) = running-keeps x (withRunning x true d) (Command.start (x ∷ [])) (running-sound d x true (sound-parts d h))
-  outcome-keeps (Call.Stop x) = running-keeps x (withRunning x false d) (Command.stop (x ∷ [])) (running-sound d x false (sound-parts d h))
-  outcome-keeps (Call.Raise x) =
-      sound-keeps _
-      (cond-cases KeepsSound (eqb (d .«override_id») 0)
-      (λ _.
-      cond-cases KeepsSound (has x (watched d))
-      (λ k. sent-keeps (withOverride x d) (raiseCommands x d) (override-sound d x (sound-parts d h) (ap (λ b. eqb x 0 || b) k ∙ or-true (eqb x 0))))
-      (λ _. refused-keeps 31 (λ e. omega arith)))
-      (λ _. refused-keeps 32 (λ e. omega arith)))
-  outcome-keeps Call.Clear =
-      sound-keeps _
-      (cond-cases KeepsSound (eqb (d .«override_id») 0)
-      (λ _. refused-keeps 33 (λ e. omega arith))
-      (λ _. sent-keeps (withOverride 0 d) (clearCommands d) (override-sound d 0 (sound-parts d h) refl)))
+outcome-keeps : (c : Call) (room : ℕ) (d : Desk) → sound d ≡ true → Comes KeepsSound c room d
+outcome-keeps c room d h = outcome-cases KeepsSound c room d (λ n k. record { stays = h; code = k .other h }) (plan-keeps c d)
 
 pub outcome-sound : (c : Call) (room : ℕ) (d : Desk) → sound d ≡ true → sound (outcome c room d .desk) ≡ true
-outcome-sound c room d h = outcome-keeps room d h c .stays
+unfolding framed
+outcome-sound c room d h = let k = outcome-keeps c room d h in ap (λ (o : Outcome (List ℕ)). sound (o .desk)) (k .is) ∙ k .holds .stays
 
 -- ---- a list of calls
-turns-sound : (ts : List Turn) (w : World) → sound (w .desk) ≡ true → sound (turns ts w .desk) ≡ true
-unfolding turns turn after effect
+turns-sound : (ts : List Turn) (w : World Desk) → sound (w .record-now) ≡ true → sound (turns desk ts w .record-now) ≡ true
+unfolding turns turn after returned
 turns-sound [] w h = h
-turns-sound (t ∷ ts) w h = turns-sound ts (turn t w) (outcome-sound (t .call) (length (t .buffer)) (w .desk) h)
+turns-sound (t ∷ ts) w h = turns-sound ts (turn desk t w) (outcome-sound (t .call) (length (t .buffer)) (w .record-now) h)
 
 pub never-bad-record : NeverBadRecord
-unfolding afterOpening effect
-never-bad-record watch down up others calls c room h =
-    let w = afterOpening watch down up others in
-    outcome-keeps room (turns calls w .desk) (turns-sound calls w (opened-sound watch down up h)) c .code
+unfolding afterOpening framed
+never-bad-record watch down up others calls c room h bad =
+    let w = afterOpening desk watch down up others in
+    let k = outcome-keeps c room (turns desk calls w .record-now) (turns-sound calls w (opened-sound watch down up h)) in
+    k .holds .code (sym (ap (λ (o : Outcome (List ℕ)). o .code) (k .is)) ∙ bad)

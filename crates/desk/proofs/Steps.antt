@@ -1,6 +1,6 @@
 -- One call: from machines as demand 3 has them before it to machines as demand 3 has them after it, by its commands.
 -- Assumes nothing.
-use Prim.Native.Nat.{ℕ}
+use Prim.Native.Nat.{ℕ, _≤_}
 use native.Mathlib.Omega.{arith}
 use mathlib.Core.Path.{_≡_, refl, sym, ap, ap₂, _∙_, subst}
 use mathlib.Core.Bool.{Bool, true, false, cond, not, _&&_, _||_}
@@ -9,22 +9,26 @@ use lib.Dec.{leb, eqb}
 use lib.IntN.{ℤ}
 use lib.ListN.{length, take, set, length-take}
 use lib.Seq.{take-set-lt}
-use borrow.Author.Tests.{eqb-true}
+use borrow.Author.Tests.{eqb-true, lt-leb, not-true, not-false}
 use Rattle.desk.specs.declared.watch.Watch.{Watch}
 use Rattle.desk.specs.declared.record.Desk.{Desk}
 use Rattle.desk.specs.Limit.{isLimit, unlimited}
 use Rattle.desk.specs.Watch.{isId, has, place, marked, filtered}
 use Rattle.desk.specs.Record.{watched, sound, withDown, withUp, withOverride, withRunning}
-use Rattle.desk.specs.Command.{Command, framesOf}
+use Rattle.desk.specs.Command.{Command}
 use Rattle.desk.specs.declared.calls.Call.{Call}
-use Rattle.desk.specs.Call.{Outcome, outcome, refused, sent, asked, limitCall, runningCall, raiseCall, clearCall, raiseCommands, clearCommands}
+use Rattle.desk.specs.Refusal.{stands}
+use Rattle.desk.specs.Plan.{Outcome, deskAfter, commandsOf, raiseCommands, clearCommands, plan}
+use Rattle.desk.specs.Calls.{refused, accepted}
 use Rattle.desk.specs.Machine.{Machine, listed, obey, request, aloneAfter}
-use Rattle.desk.specs.Demands.{overrideAfter, standingAfter, overridden}
+use Rattle.desk.specs.Demands.{overridden}
 use Rattle.desk.proofs.Cases.{by-cases, cond-cases}
 use Rattle.desk.proofs.WatchLists.{entry, has-set, marked-set, place-below, has-id, id-not-zero}
 use Rattle.desk.proofs.SoundLaws.{sound-parts, watched-length, pick-ids, pick-length}
 use Rattle.desk.proofs.CommandLaws.{FewIds, Sendable, AllSendable, obeyAll, one-id, four-sendable}
 use Rattle.desk.proofs.Overrides.{Desired, desired-kept, overridden-kept, raise-obeyed, clear-obeyed}
+use Rattle.desk.proofs.RefusalLaws.{Accepted}
+use Rattle.desk.proofs.CallLaws.{Comes, outcome-cases}
 
 -- a start or stop of one ID
 started : (b r : Bool) → ((b || false) || r) ≡ cond b true r
@@ -43,77 +47,54 @@ pick-few p d h = (
 )
 
 module _ (watch : List Watch) (others : ℕ → Bool) where
-  -- before a call: the machine m of the routine requests alone is as desired, and the override x that stands is the record's
-  pub record Known (d : Desk) (m : Machine) (x : ℕ) : Type 0 where
-    pub desired : Desired watch others d m
-    pub stands : x ≡ d .«override_id»
+  -- the daemon that demand 3 asks for, by the machine of the routine requests alone and the desk's record
+  abbrev pub due : Machine → Desk → Machine
+  due m d = cond (stands d) (overridden watch others (d .«override_id»)) m
 
-  -- the daemon that demand 3 asks for
-  abbrev pub due : Machine → ℕ → Machine
-  due m x = cond (eqb x 0) m (overridden watch others x)
-
-  -- a call with an outcome: it is known again, and its commands are sendable and bring the daemon to what demand 3 asks for
-  pub record Step (c : Call) (m : Machine) (x : ℕ) (o : Outcome) : Type 0 where
-    pub known : Known (o .desk) (aloneAfter c (o .code) m) (standingAfter c (o .code) x)
-    pub sendable : AllSendable (o .commands)
-    pub obeyed : obeyAll (o .commands) (due m x) ≡ due (aloneAfter c (o .code) m) (standingAfter c (o .code) x)
+  -- a call with an outcome: the machine of the routine requests is as desired again, and its commands are sendable and bring the
+  -- daemon to what demand 3 asks for
+  pub record Step (c : Call) (d : Desk) (m : Machine) (o : Outcome (List Command)) : Type 0 where
+    pub desired : Desired watch others (o .desk) (aloneAfter c (o .code) m)
+    pub sendable : AllSendable (o .sent)
+    pub obeyed : obeyAll (o .sent) (due m d) ≡ due (aloneAfter c (o .code) m) (o .desk)
 
   -- a refusal
-  refused-step : (c : Call) (d : Desk) (m : Machine) (x n : ℕ) → leb n 1 ≡ false → eqb n 0 ≡ false → Known d m x → Step c m x (refused n d)
-  unfolding aloneAfter standingAfter obeyAll
-  refused-step c d m x n big more k =
-      let em : cond (leb n 1) (request c m) m ≡ m = ap (λ b. cond b (request c m) m) big in
-      let ex : cond (eqb n 0) (overrideAfter c x) x ≡ x = ap (λ b. cond b (overrideAfter c x) x) more in
+  refused-step : (c : Call) (d : Desk) (m : Machine) (n : ℕ) → 2 ≤ n → Desired watch others d m → Step c d m (refused n d)
+  unfolding aloneAfter obeyAll
+  refused-step c d m n large want =
+      let same : cond (leb n 1) (request c m) m ≡ m = ap (λ b. cond b (request c m) m) (lt-leb n 1 (omega arith)) in
       record {
-        known = record { desired = subst (Desired watch others d) (sym em) (k .desired); stands = ex ∙ k .stands };
+        desired = subst (Desired watch others d) (sym same) want;
         sendable = tt;
-        obeyed = ap₂ due (sym em) (sym ex);
+        obeyed = ap (λ (k : Machine). due k d) (sym same);
       }
 
-  -- commands sent, or 34
-  sent-step : (c : Call) (d : Desk) (m : Machine) (x room : ℕ) (next : Desk) (cs : List Command) → Known d m x
-      → Known next (request c m) (overrideAfter c x) → AllSendable cs → obeyAll cs (due m x) ≡ due (request c m) (overrideAfter c x)
-      → Step c m x (sent room d next cs)
-  unfolding sent aloneAfter standingAfter
-  sent-step c d m x room next cs k k′ ok obeyed =
-      cond-cases (Step c m x) (leb (length (framesOf cs)) room)
-      (λ _. record { known = k′; sendable = ok; obeyed = obeyed })
-      (λ _. refused-step c d m x 34 refl refl k)
-
-  -- an accepted request, whose own command is a
-  asked-step : (c : Call) (d : Desk) (m : Machine) (x room : ℕ) (next : Desk) (a : Command) → Known d m x
-      → request c m ≡ obey a m → overrideAfter c x ≡ x → Sendable a → Desired watch others next (obey a m) → d .«override_id» ≡ next .«override_id»
-      → Step c m x (asked room d next a)
-  unfolding asked obeyAll aloneAfter standingAfter
-  asked-step c d m x room next a k req ovr ok want same =
+  -- a routine request, whose own command is a
+  routine-step : (c : Call) (d : Desk) (m : Machine) (next : Desk) (a : Command) → request c m ≡ obey a m → Sendable a
+      → Desired watch others next (obey a m) → next .«override_id» ≡ d .«override_id»
+      → Step c d m (cond (stands d) (record { code = 1; desk = next; sent = [] }) (record { code = 0; desk = next; sent = a ∷ [] }))
+  unfolding obeyAll aloneAfter
+  routine-step c d m next a req ok want same =
       let want′ : Desired watch others next (request c m) = subst (Desired watch others next) (sym req) want in
-      cond-cases (Step c m x) (eqb (d .«override_id») 0)
-      (λ none-stands.
-      let zero-stands : eqb x 0 ≡ true = ap (λ y. eqb y 0) (k .stands) ∙ none-stands in
-      sent-step c d m x room next (a ∷ []) k (record { desired = want′; stands = ovr ∙ k .stands ∙ same }) (ok, tt)
-      (ap (λ b. obey a (cond b m (overridden watch others x))) zero-stands
-      ∙ sym req
-      ∙ ap (λ b. cond b (request c m) (overridden watch others x)) (sym zero-stands)
-      ∙ ap (due (request c m)) (sym ovr)))
-      (λ stands.
-      let one-stands : eqb x 0 ≡ false = ap (λ y. eqb y 0) (k .stands) ∙ stands in
-      record {
-        known = record { desired = want′; stands = k .stands ∙ same };
+      let after : due (request c m) next ≡ due (request c m) d = ap (λ (x : ℕ). cond (not (eqb x 0)) (overridden watch others x) (request c m)) same in
+      cond-cases (Step c d m) (stands d)
+      (λ s. record {
+        desired = want′;
         sendable = tt;
-        obeyed = ap (λ b. cond b m (overridden watch others x)) one-stands ∙ ap (λ b. cond b (request c m) (overridden watch others x)) (sym one-stands);
+        obeyed =
+            ap (λ b. cond b (overridden watch others (d .«override_id»)) m) s
+            ∙ ap (λ b. cond b (overridden watch others (d .«override_id»)) (request c m)) (sym s)
+            ∙ sym after;
       })
-
-  limit-step : (c : Call) (d : Desk) (m : Machine) (x room : ℕ) (n : ℤ) (next : Desk) (a : Command) → Known d m x
-      → request c m ≡ obey a m → overrideAfter c x ≡ x → (isLimit n ≡ true → Sendable a) → Desired watch others next (obey a m) → d .«override_id» ≡ next .«override_id»
-      → Step c m x (limitCall room n d next a)
-  unfolding limitCall
-  limit-step c d m x room n next a k req ovr ok want same =
-      cond-cases (Step c m x) (sound d)
-      (λ _.
-      cond-cases (Step c m x) (isLimit n)
-      (λ h. asked-step c d m x room next a k req ovr (ok h) want same)
-      (λ _. refused-step c d m x 30 refl refl k))
-      (λ _. refused-step c d m x 38 refl refl k)
+      (λ s. record {
+        desired = want′;
+        sendable = (ok, tt);
+        obeyed =
+            ap (λ b. obey a (cond b (overridden watch others (d .«override_id»)) m)) s
+            ∙ sym req
+            ∙ ap (λ b. cond b (overridden watch others (d .«override_id»)) (request c m)) (sym s)
+            ∙ sym after;
+      })
 
   -- the record with another running mark, and the machine that started or stopped that ID
   running-desired : (d : Desk) (m : Machine) (x : ℕ) (on : Bool) (c : Command) → Desired watch others d m → has x (watched d) ≡ true
@@ -137,80 +118,65 @@ module _ (watch : List Watch) (others : ℕ → Bool) where
             ∙ ap (λ r. cond (has y watch) r (others y)) (sym (ap (marked y) short ∙ marked-set x y on (watched d) h));
       }
 
-  running-step : (c : Call) (d : Desk) (m : Machine) (x room y : ℕ) (on : Bool) (a : Command) → Known d m x
-      → request c m ≡ obey a m → overrideAfter c x ≡ x → (isId y ≡ true → Sendable a)
-      → obey a m .down ≡ m .down → obey a m .up ≡ m .up → ((z : ℕ) → obey a m .runs z ≡ cond (eqb y z) on (m .runs z))
-      → Step c m x (runningCall room y d (withRunning y on d) a)
-  unfolding runningCall withRunning
-  running-step c d m x room y on a k req ovr ok same-down same-up runs =
-      cond-cases (Step c m x) (sound d)
-      (λ s.
-      cond-cases (Step c m x) (has y (watched d))
-      (λ h.
-      asked-step c d m x room (withRunning y on d) a k req ovr (ok (has-id y (watched d) (sound-parts d s .ids) h))
-      (running-desired d m y on a (k .desired) h same-down same-up runs) refl)
-      (λ _. refused-step c d m x 31 refl refl k))
-      (λ _. refused-step c d m x 38 refl refl k)
-
   -- the override's ID moves nothing else
   override-desired : (d : Desk) (m : Machine) (x : ℕ) → Desired watch others d m → Desired watch others (withOverride x d) m
   unfolding withOverride
   override-desired d m x want = record { ids = want .ids; down = want .down; up = want .up; runs = want .runs }
 
-  raise-step : (d : Desk) (m : Machine) (x room y : ℕ) → Known d m x → Step (Call.Raise y) m x (raiseCall room y d)
-  unfolding raiseCall request overrideAfter withOverride raiseCommands isLimit
-  raise-step d m x room y k =
-      cond-cases (Step (Call.Raise y) m x) (sound d)
-      (λ s.
-      cond-cases (Step (Call.Raise y) m x) (eqb (d .«override_id») 0)
-      (λ none-stands.
-      cond-cases (Step (Call.Raise y) m x) (has y (watched d))
-      (λ h.
-      let ok = has-id y (watched d) (sound-parts d s .ids) h in
-      sent-step (Call.Raise y) d m x room (withOverride y d) (raiseCommands y d) k (record { desired = override-desired d m y (k .desired); stands = refl })
-      (four-sendable unlimited unlimited _ (y ∷ []) refl refl (pick-few (λ v. not (eqb (v .id) y)) d s) (one-id y ok))
-      (ap (λ b. obeyAll (raiseCommands y d) (cond b m (overridden watch others x))) (ap (λ z. eqb z 0) (k .stands) ∙ none-stands)
-      ∙ raise-obeyed watch others d m y (k .desired .ids) (desired-kept watch others d m (k .desired))
-      ∙ ap (λ b. cond b m (overridden watch others y)) (sym (id-not-zero y ok))))
-      (λ _. refused-step (Call.Raise y) d m x 31 refl refl k))
-      (λ _. refused-step (Call.Raise y) d m x 32 refl refl k))
-      (λ _. refused-step (Call.Raise y) d m x 38 refl refl k)
-
   -- the override of a sound record is on a watched ID
-  override-watched : (d : Desk) (m : Machine) (x : ℕ) → sound d ≡ true → Known d m x → eqb (d .«override_id») 0 ≡ false → has x watch ≡ true
-  override-watched d m x s k stands =
-      sym (k .desired .ids x)
-      ∙ ap (λ y. has y (watched d)) (k .stands)
-      ∙ ap (λ b. b || has (d .«override_id») (watched d)) (sym stands)
+  override-watched : (d : Desk) (m : Machine) → sound d ≡ true → Desired watch others d m → stands d ≡ true → has (d .«override_id») watch ≡ true
+  override-watched d m s want standing =
+      sym (want .ids (d .«override_id»))
+      ∙ ap (λ b. b || has (d .«override_id») (watched d)) (sym (not-true (eqb (d .«override_id») 0) standing))
       ∙ sound-parts d s .override
 
-  clear-step : (d : Desk) (m : Machine) (x room : ℕ) → Known d m x → Step Call.Clear m x (clearCall room d)
-  unfolding clearCall request overrideAfter withOverride clearCommands
-  clear-step d m x room k =
-      cond-cases (Step Call.Clear m x) (sound d)
-      (λ s.
-      cond-cases (Step Call.Clear m x) (eqb (d .«override_id») 0)
-      (λ _. refused-step Call.Clear d m x 33 refl refl k)
-      (λ stands.
-      let parts = sound-parts d s in
-      sent-step Call.Clear d m x room (withOverride 0 d) (clearCommands d) k (record { desired = override-desired d m 0 (k .desired); stands = refl })
-      (four-sendable (d .down) (d .up) _ _ (parts .down) (parts .up) (pick-few (λ v. not (v .running)) d s) (pick-few (λ v. v .running) d s))
-      (ap (λ b. obeyAll (clearCommands d) (cond b m (overridden watch others x))) (ap (λ z. eqb z 0) (k .stands) ∙ stands)
-      ∙ clear-obeyed watch others d (overridden watch others x) m (k .desired) (parts .ids) (overridden-kept watch others x (override-watched d m x s k stands)))))
-      (λ _. refused-step Call.Clear d m x 38 refl refl k)
+  raise-step : (d : Desk) (m : Machine) (y : ℕ) → Accepted (Call.Raise y) d → Desired watch others d m
+      → Step (Call.Raise y) d m (accepted (withOverride y d) (raiseCommands y d))
+  unfolding request withOverride raiseCommands isLimit aloneAfter
+  raise-step d m y ok want =
+      let y-id = has-id y (watched d) (sound-parts d (ok .is-sound) .ids) (ok .id) in
+      record {
+        desired = override-desired d m y want;
+        sendable = four-sendable unlimited unlimited _ (y ∷ []) refl refl (pick-few (λ v. not (eqb (v .id) y)) d (ok .is-sound)) (one-id y y-id);
+        obeyed =
+            ap (λ b. obeyAll (raiseCommands y d) (cond b (overridden watch others (d .«override_id»)) m)) (ok .first)
+            ∙ raise-obeyed watch others d m y (want .ids) (desired-kept watch others d m want)
+            ∙ ap (λ b. cond (not b) (overridden watch others y) m) (sym (id-not-zero y y-id));
+      }
 
-  -- every call is a step
-  pub outcome-step : (c : Call) (room : ℕ) (d : Desk) (m : Machine) (x : ℕ) → Known d m x → Step c m x (outcome c room d)
-  unfolding outcome request overrideAfter obey listed withDown withUp
-  outcome-step (Call.Down n) room d m x k =
-      limit-step (Call.Down n) d m x room n (withDown n d) (Command.setDown n) k refl refl (λ h. h)
-      (record { ids = k .desired .ids; down = refl; up = k .desired .up; runs = k .desired .runs }) refl
-  outcome-step (Call.Up n) room d m x k =
-      limit-step (Call.Up n) d m x room n (withUp n d) (Command.setUp n) k refl refl (λ h. h)
-      (record { ids = k .desired .ids; down = k .desired .down; up = refl; runs = k .desired .runs }) refl
-  outcome-step (Call.Start y) room d m x k =
-      running-step (Call.Start y) d m x room y true (Command.start (y ∷ [])) k refl refl (one-id y) refl refl (λ z. started (eqb y z) (m .runs z))
-  outcome-step (Call.Stop y) room d m x k =
-      running-step (Call.Stop y) d m x room y false (Command.stop (y ∷ [])) k refl refl (one-id y) refl refl (λ z. stopped (eqb y z) (m .runs z))
-  outcome-step (Call.Raise y) room d m x k = raise-step d m x room y k
-  outcome-step Call.Clear room d m x k = clear-step d m x room k
+  clear-step : (d : Desk) (m : Machine) → Accepted Call.Clear d → Desired watch others d m
+      → Step Call.Clear d m (accepted (withOverride 0 d) (clearCommands d))
+  unfolding request withOverride clearCommands aloneAfter
+  clear-step d m ok want =
+      let parts = sound-parts d (ok .is-sound) in
+      let standing : stands d ≡ true = not-false (stands d) (ok .some-stands) in
+      record {
+        desired = override-desired d m 0 want;
+        sendable = four-sendable (d .down) (d .up) _ _ (parts .down) (parts .up) (pick-few (λ v. not (v .running)) d (ok .is-sound)) (pick-few (λ v. v .running) d (ok .is-sound));
+        obeyed =
+            ap (λ b. obeyAll (clearCommands d) (cond b (overridden watch others (d .«override_id»)) m)) standing
+            ∙ clear-obeyed watch others d (overridden watch others (d .«override_id»)) m want (parts .ids)
+            (overridden-kept watch others (d .«override_id») (override-watched d m (ok .is-sound) want standing));
+      }
+
+  -- an accepted call
+  plan-step : (c : Call) (d : Desk) (m : Machine) → Desired watch others d m → Accepted c d → Step c d m (plan c d)
+  unfolding plan deskAfter commandsOf request obey listed withDown withUp
+  plan-step (Call.Down n) d m want ok =
+      routine-step (Call.Down n) d m (withDown n d) (Command.setDown n) refl (ok .limit)
+      (record { ids = want .ids; down = refl; up = want .up; runs = want .runs }) refl
+  plan-step (Call.Up n) d m want ok =
+      routine-step (Call.Up n) d m (withUp n d) (Command.setUp n) refl (ok .limit)
+      (record { ids = want .ids; down = want .down; up = refl; runs = want .runs }) refl
+  plan-step (Call.Start y) d m want ok = unfold withRunning in
+      routine-step (Call.Start y) d m (withRunning y true d) (Command.start (y ∷ [])) refl (one-id y (has-id y (watched d) (sound-parts d (ok .is-sound) .ids) (ok .id)))
+      (running-desired d m y true (Command.start (y ∷ [])) want (ok .id) refl refl (λ z. started (eqb y z) (m .runs z))) refl
+  plan-step (Call.Stop y) d m want ok = unfold withRunning in
+      routine-step (Call.Stop y) d m (withRunning y false d) (Command.stop (y ∷ [])) refl (one-id y (has-id y (watched d) (sound-parts d (ok .is-sound) .ids) (ok .id)))
+      (running-desired d m y false (Command.stop (y ∷ [])) want (ok .id) refl refl (λ z. stopped (eqb y z) (m .runs z))) refl
+  plan-step (Call.Raise y) d m want ok = raise-step d m y ok want
+  plan-step Call.Clear d m want ok = clear-step d m ok want
+
+  -- every call is a step, by the commands that it sends
+  pub outcome-step : (c : Call) (room : ℕ) (d : Desk) (m : Machine) → Desired watch others d m → Comes (Step c d m) c room d
+  outcome-step c room d m want = outcome-cases (Step c d m) c room d (λ n k. refused-step c d m n (k .large) want) (plan-step c d m want)

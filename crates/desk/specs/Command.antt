@@ -1,4 +1,4 @@
--- The commands that the desk sends, and their frames as the frame writer writes them (document 01, 'The desk': frames carry no tag).
+-- The commands that the desk sends, and their frames as the frame writer writes them (document 01, 'The desk').
 -- Assumes nothing.
 use Prim.Native.Nat.{ℕ}
 use mathlib.Core.Path.{_≡_}
@@ -39,27 +39,31 @@ values (x ∷ xs) = value (integer (pos x)) (values xs)
 unfoldable pub idList : List ℕ → List ℕ
 idList ids = encode (list (values ids))
 
--- the frame of a message without a tag, of a limit, and of a list of IDs
-unfoldable pub messageFrame : ℕ → Given → List ℕ → List ℕ
-messageFrame key given s = frameOf (payloadOf key given s 0)
+-- the frame of a message with a tag (0 for none), of a limit, and of a list of IDs
+unfoldable pub messageFrame : ℕ → ℕ → Given → List ℕ → List ℕ
+messageFrame tag key given s = frameOf (payloadOf key given s tag)
 
-abbrev pub limitFrame : ℕ → ℤ → List ℕ
-limitFrame key n = messageFrame key (Given.Integer n) []
+abbrev pub limitFrame : ℕ → ℕ → ℤ → List ℕ
+limitFrame tag key n = messageFrame tag key (Given.Integer n) []
 
-abbrev pub idsFrame : ℕ → List ℕ → List ℕ
-idsFrame key ids = messageFrame key Given.Bytes (idList ids)
+abbrev pub idsFrame : ℕ → ℕ → List ℕ → List ℕ
+idsFrame tag key ids = messageFrame tag key Given.Bytes (idList ids)
 
 -- the frame of a command
-unfoldable pub commandFrame : Command → List ℕ
-commandFrame (setDown n) = limitFrame downlimitKey n
-commandFrame (setUp n) = limitFrame uplimitKey n
-commandFrame (start ids) = idsFrame startKey ids
-commandFrame (stop ids) = idsFrame stopKey ids
+unfoldable pub commandFrame : ℕ → Command → List ℕ
+commandFrame tag (setDown n) = limitFrame tag downlimitKey n
+commandFrame tag (setUp n) = limitFrame tag uplimitKey n
+commandFrame tag (start ids) = idsFrame tag startKey ids
+commandFrame tag (stop ids) = idsFrame tag stopKey ids
+
+-- frames carry no tag
+abbrev pub noTag : ℕ
+noTag = 0
 
 -- a call's frames, joined
 unfoldable pub framesOf : List Command → List ℕ
 framesOf [] = []
-framesOf (c ∷ cs) = commandFrame c ++ framesOf cs
+framesOf (c ∷ cs) = commandFrame noTag c ++ framesOf cs
 
 -- a start or stop, written only where it lists an ID
 unfoldable pub listing : (List ℕ → Command) → List ℕ → List Command
@@ -72,13 +76,13 @@ longest = 479
 
 -- ---- for the functions that put frames
 -- the frame of a list of IDs; none where the list is empty
-unfoldable pub listedFrame : ℕ → List ℕ → List ℕ
-listedFrame key [] = []
-listedFrame key (x ∷ xs) = idsFrame key (x ∷ xs)
+unfoldable pub listedFrame : ℕ → ℕ → List ℕ → List ℕ
+listedFrame tag key [] = []
+listedFrame tag key (x ∷ xs) = idsFrame tag key (x ∷ xs)
 
 -- the frame writer writes a message into so many bytes
-abbrev pub Writable : ℕ → Given → List ℕ → Type 0
-Writable key given s = writeAnswer key given s 0 longest ≡ Written.Count (length (messageFrame key given s))
+abbrev pub Writable : ℕ → ℕ → Given → List ℕ → Type 0
+Writable tag key given s = writeAnswer key given s tag longest ≡ Written.Count (length (messageFrame tag key given s))
 
 abbrev pub LimitKey : ℕ → Type 0
 LimitKey key = (key ≡ downlimitKey) ⊎ (key ≡ uplimitKey)

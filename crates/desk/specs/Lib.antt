@@ -3,8 +3,9 @@ pub mod Watch
 pub mod Record
 pub mod Opening
 pub mod Command
-pub mod Call
-pub mod Effect
+pub mod Refusal
+pub mod Plan
+pub mod Calls
 pub mod Machine
 pub mod Demands
 pub mod Tries

@@ -17,6 +17,11 @@ mostWatched = 32
 unfoldable pub isId : ℕ → Bool
 isId id = within 1 largestId (pos id)
 
+-- is every number of a list a torrent ID
+unfoldable pub allIds : List ℕ → Bool
+allIds [] = true
+allIds (x ∷ xs) = isId x && allIds xs
+
 -- what an unused place holds
 abbrev pub empty : Watch
 empty = record { id = 0; running = false }

@@ -2,15 +2,13 @@
 // the whole link while an override stands, and restores what is desired when it is cleared.
 pub mod calls;
 mod change;
-pub mod clear;
 pub mod done;
-mod effect;
 mod frames;
 pub mod limit;
 mod lists;
 pub mod opening;
-pub mod raise;
+mod plan;
 pub mod record;
-pub mod request;
+mod refusal;
 mod sound;
 pub mod watch;

@@ -1,108 +1,84 @@
--- `desk::calls::perform` meets its contract.
+-- `desk::calls::perform` meets its contract: a refusal, a deferred request, or its frames.
 -- Assumes nothing.
-use mir.Syntax.{w32}
-use mir.ValLaws.{toZ-ofZ}
+use mathlib.Core.Path.{_≡_, refl, sym, ap, _∙_}
+use mathlib.Core.List.{[]}
+use native.Mathlib.Omega.{arith}
+use denote.Ref.{now}
+use lib.ListN.{length}
+use Rattle.desk.specs.declared.record.Desk.{Desk}
+use Rattle.desk.specs.Command.{framesOf}
+use Rattle.desk.specs.Refusal.{callFault}
+use Rattle.desk.specs.Plan.{deskAfter, commandsOf}
+use Rattle.desk.specs.Calls.{refused, returned}
+use Rattle.desk.proofs.CallLaws.{nothing-sent, returned-as, outcome-refused, outcome-deferred, outcome-sends}
+use Rattle.desk.proofs.PlanLaws.{commands-length}
+use Rattle.desk.proofs.PutFrames.{Front, front-wrote, front-count}
+use Rattle.desk.proofs.RefusalLaws.{accepted-call}
 use borrow.Author.Needs.{needs}
 use Rattle.desk.proofs.calls.perform.Statement.{statement}
 use Rattle.desk.proofs.calls.perform.Tie as tie
 
-enum-known-call : tie.Need-enum-known-call
-enum-known-call c = search needs
+-- the tests passed so far
+passed : (c : tie.Else1) → callFault (c .before .before .before .args .call) (c .before .before .before .args .d) ≡ 0
+passed c = sym (c .before .call-fault .ensures) ∙ c .if1 .left
 
-limit-down-requires : tie.Need-limit-down-requires
-limit-down-requires c κs = search needs
+front : (c : tie.After-put-commands) → Front (framesOf (commandsOf (c .before .before .before .before .before .before .before .before .args .call) (c .before .before .before .before .before .before .before .before .args .d))) (c .put-commands .last .0) (c .put-commands .result)
+front c = front-wrote (commands-length (c .before .before .before .before .before .before .before .before .args .call) (c .before .before .before .before .before .before .before .before .args .d) (accepted-call (c .before .before .before .before .before .before .before .before .args .call) (c .before .before .before .before .before .before .before .before .args .d) (passed (c .before .before .before .before .before)))) (c .put-commands .ensures)
 
-enum-known-call-2 : tie.Need-enum-known-call-2
-enum-known-call-2 c = search needs
+call-fault-requires : tie.Need-call-fault-requires
+call-fault-requires c κs = search needs
 
-limit-up-requires : tie.Need-limit-up-requires
-limit-up-requires c κs = search needs
+refuse-requires : tie.Need-refuse-requires
+refuse-requires c κs = search needs
 
-enum-known-call-3 : tie.Need-enum-known-call-3
-enum-known-call-3 c = search needs
+returns : tie.Need-returns
+returns c = nothing-sent (refused (callFault (c .before .before .before .before .args .call) (c .before .before .before .before .args .d)) (c .before .before .before .before .args .d)) (outcome-refused (c .before .before .before .before .args .call) (length (now (c .before .before .before .before .args .out))) (c .before .before .before .before .args .d) (λ e. c .before .if1 .taken (c .before .before .call-fault .ensures ∙ e))) refl (rw (c .before .before .call-fault .ensures) at (c .refuse .ensures))
 
-start-requires : tie.Need-start-requires
-start-requires c κs = search needs
+desk-after-requires : tie.Need-desk-after-requires
+desk-after-requires c κs = passed c
 
-enum-known-call-4 : tie.Need-enum-known-call-4
-enum-known-call-4 c = search needs
+is-deferred-requires : tie.Need-is-deferred-requires
+is-deferred-requires c κs = search needs
 
-stop-requires : tie.Need-stop-requires
-stop-requires c κs = search needs
+returns-2 : tie.Need-returns-2
+unfolding returned
+returns-2 c = nothing-sent (record { code = 1; desk = deskAfter (c .before .before .before .before .before .before .args .call) (c .before .before .before .before .before .before .args .d); sent = [] }) (outcome-deferred (c .before .before .before .before .before .before .args .call) (length (now (c .before .before .before .before .before .before .args .out))) (c .before .before .before .before .before .before .args .d) (passed (c .before .before .before)) (sym (c .before .is-deferred .ensures) ∙ c .if2 .taken)) refl (ap (λ (x : Desk). record { code = 1; count = 0; desk = x }) (c .before .before .desk-after .ensures))
 
-enum-known-call-5 : tie.Need-enum-known-call-5
-enum-known-call-5 c = search needs
+slice-aggregate-put-commands : tie.Need-slice-aggregate-put-commands
+slice-aggregate-put-commands c = search needs
 
-raise-requires : tie.Need-raise-requires
-raise-requires c κs = search needs
+put-commands-requires : tie.Need-put-commands-requires
+put-commands-requires c κs = (passed (c .before .before .before .before), omega arith)
 
-enum-told : tie.Need-enum-told
-enum-told c = search needs
+array-share-prefix-frames : tie.Need-array-share-prefix-frames
+array-share-prefix-frames c = front (c .before) .inside
 
-clear-requires : tie.Need-clear-requires
-clear-requires c κs = search needs
+slice-aggregate-deliver : tie.Need-slice-aggregate-deliver
+slice-aggregate-deliver c = front-count (front (c .before .before))
+
+deliver-requires : tie.Need-deliver-requires
+deliver-requires c κs = search needs
 
 same-length : tie.Need-same-length
 same-length c = search needs
 
-returns : tie.Need-returns
-returns c = rw (c .before .before .before .before .before .call .given .1) (rw (toZ-ofZ w32 (c .before .before .before .before .before .call .given .0 .0) (record { sfits = c .before .before .before .before .known-told .given .0 .1 })) at (c .before .before .limit-down .ensures))
-
-same-length-2 : tie.Need-same-length-2
-same-length-2 c = search needs
-
-returns-2 : tie.Need-returns-2
-returns-2 c = rw (c .before .before .before .before .before .call2 .given .1) (rw (toZ-ofZ w32 (c .before .before .before .before .before .call2 .given .0 .0) (record { sfits = c .before .before .before .before .known-told2 .given .0 .1 })) at (c .before .before .limit-up .ensures))
-
-same-length-3 : tie.Need-same-length-3
-same-length-3 c = search needs
-
 returns-3 : tie.Need-returns-3
-returns-3 c = rw (c .before .before .before .before .before .call3 .given .1) (c .before .before .start .ensures)
-
-same-length-4 : tie.Need-same-length-4
-same-length-4 c = search needs
-
-returns-4 : tie.Need-returns-4
-returns-4 c = rw (c .before .before .before .before .before .call4 .given .1) (c .before .before .stop .ensures)
-
-same-length-5 : tie.Need-same-length-5
-same-length-5 c = search needs
-
-returns-5 : tie.Need-returns-5
-returns-5 c = rw (c .before .before .before .before .before .call5 .given .1) (c .before .before .raise .ensures)
-
-same-length-6 : tie.Need-same-length-6
-same-length-6 c = search needs
-
-returns-6 : tie.Need-returns-6
-returns-6 c = rw (c .before .before .before .before .enum-told .given .1) (c .before .before .clear .ensures)
+returns-3 c = returned-as (outcome-sends (c .before .before .before .before .before .before .before .before .before .before .before .before .before .before .args .call) (length (now (c .before .before .before .before .before .before .before .before .before .before .before .before .before .before .args .out))) (c .before .before .before .before .before .before .before .before .before .before .before .before .before .before .args .d) (passed (c .before .before .before .before .before .before .before .before .before .before .before)) (sym (c .before .before .before .before .before .before .before .before .before .is-deferred .ensures) ∙ c .before .before .before .before .before .before .before .before .if2 .left)) (rw (front (c .before .before .before .before .before .before) .front, c .before .before .before .before .before .before .before .before .before .before .desk-after .ensures) at (c .before .before .deliver .ensures))
 
 pub perform-spec : {M : Type 1} → statement M
 perform-spec =
     tie.close
     (tie.spec
-    enum-known-call
-    limit-down-requires
-    enum-known-call-2
-    limit-up-requires
-    enum-known-call-3
-    start-requires
-    enum-known-call-4
-    stop-requires
-    enum-known-call-5
-    raise-requires
-    enum-told
-    clear-requires
-    same-length
+    call-fault-requires
+    refuse-requires
     returns
-    same-length-2
+    desk-after-requires
+    is-deferred-requires
     returns-2
-    same-length-3
-    returns-3
-    same-length-4
-    returns-4
-    same-length-5
-    returns-5
-    same-length-6
-    returns-6)
+    slice-aggregate-put-commands
+    put-commands-requires
+    array-share-prefix-frames
+    slice-aggregate-deliver
+    deliver-requires
+    same-length
+    returns-3)

@@ -26,7 +26,7 @@ put-ids-requires c κs = (sound-parts (c .before .before .args .d) (c .before .b
 returns : tie.Need-returns
 returns c =
     let ids = pickIds (c .before .before .before .before .before .args .pick) (watched (c .before .before .before .before .before .args .d)) in
-    rw (listed-none (c .before .before .before .before .before .args .key) ids (sym (front (c .before .before) .counted) ∙ c .if1 .taken)) (put-nothing (now (c .before .before .before .before .before .args .out)) (c .before .before .before .before .before .args .at))
+    rw (listed-none (c .before .before .before .before .before .args .tag) (c .before .before .before .before .before .args .key) ids (sym (front (c .before .before) .counted) ∙ c .if1 .taken)) (put-nothing (now (c .before .before .before .before .before .args .out)) (c .before .before .before .before .before .args .at))
 
 array-share-prefix-list : tie.Need-array-share-prefix-list
 array-share-prefix-list c = front (c .before .before .before) .inside
@@ -37,7 +37,7 @@ slice-aggregate-put-message c = front-count (front (c .before .before .before .b
 put-message-requires : tie.Need-put-message-requires
 put-message-requires c κs =
     let few = picked-few (c .before .before .before .before .before .before .before .args .d) (c .before .before .before .before .before .before .before .pre .1) (c .before .before .before .before .before .before .before .args .pick) in
-    rw (front (c .before .before .before .before) .front) (ids-writable (c .before .before .before .before .before .before .before .args .key) (pickIds (c .before .before .before .before .before .before .before .args .pick) (watched (c .before .before .before .before .before .before .before .args .d))) (c .before .before .before .before .before .before .before .pre .0) (few .0) (few .1))
+    rw (front (c .before .before .before .before) .front) (ids-writable (c .before .before .before .before .before .before .before .args .tag) (c .before .before .before .before .before .before .before .pre .2) (c .before .before .before .before .before .before .before .args .key) (pickIds (c .before .before .before .before .before .before .before .args .pick) (watched (c .before .before .before .before .before .before .before .args .d))) (c .before .before .before .before .before .before .before .pre .0) (few .0) (few .1))
 
 same-length : tie.Need-same-length
 same-length c = search needs
@@ -45,7 +45,7 @@ same-length c = search needs
 returns-2 : tie.Need-returns-2
 returns-2 c =
     let ids = pickIds (c .before .before .before .before .before .before .before .before .before .before .args .pick) (watched (c .before .before .before .before .before .before .before .before .before .before .args .d)) in
-    let some = listed-some (c .before .before .before .before .before .before .before .before .before .before .args .key) ids (λ e. c .before .before .before .before .before .if1 .left (front (c .before .before .before .before .before .before .before) .counted ∙ e)) in
+    let some = listed-some (c .before .before .before .before .before .before .before .before .before .before .args .tag) (c .before .before .before .before .before .before .before .before .before .before .args .key) ids (λ e. c .before .before .before .before .before .if1 .left (front (c .before .before .before .before .before .before .before) .counted ∙ e)) in
     rw some (rw (front (c .before .before .before .before .before .before .before) .front) at (c .before .before .put-message .ensures))
 
 pub put-listed-spec : {M : Type 1} → statement M

@@ -13,10 +13,10 @@ use Rattle.desk.proofs.frames.put_message.Tie as tie
 -- the writer left the frame at the front
 front : (c : tie.After-n) →
     let a = c .before .before .before .before .before .before .before .args in
-    Front (messageFrame (a .key) (a .given) (now (a .s))) (c .before .before .before .write .last .1 .1 .1 .1 .0) (c .n .given .0 .0)
+    Front (messageFrame (a .tag) (a .key) (a .given) (now (a .s))) (c .before .before .before .write .last .1 .1 .1 .1 .0) (c .n .given .0 .0)
 front c =
     let a = c .before .before .before .before .before .before .before .args in
-    frame-front (a .key) (a .given) (now (a .s)) (c .before .before .before .before .before .before .before .pre) refl (c .before .before .before .write .ensures) (c .n .given .0 .0) (c .n .given .1)
+    frame-front (a .tag) (a .key) (a .given) (now (a .s)) (c .before .before .before .before .before .before .before .pre) refl (c .before .before .before .write .ensures) (c .n .given .0 .0) (c .n .given .1)
 
 slice-aggregate-write : tie.Need-slice-aggregate-write
 slice-aggregate-write c = search needs
@@ -50,7 +50,7 @@ returns c =
 returns-2 : tie.Need-returns-2
 returns-2 c =
     let a = c .before .before .before .before .before .before .before .args in
-    absurd (never-refused (a .key) (a .given) (now (a .s)) (c .before .before .before .before .before .before .before .pre) refl (c .before .before .before .write .ensures) (c .enum-told .given .0 .0) (c .enum-told .given .1))
+    absurd (never-refused (a .tag) (a .key) (a .given) (now (a .s)) (c .before .before .before .before .before .before .before .pre) refl (c .before .before .before .write .ensures) (c .enum-told .given .0 .0) (c .enum-told .given .1))
 
 pub put-message-spec : {M : Type 1} → statement M
 put-message-spec =

@@ -84,7 +84,7 @@ slice-aggregate-put-message c = front-count (front (c .before .before .before))
 put-message-requires : tie.Need-put-message-requires
 put-message-requires c κs =
     let few = one-id (c .before .before .before .before .before .before .before .before .before .before .before .before .before .before .args .id) (c .before .before .before .before .before .before .before .before .before .before .before .before .before .before .pre .1) in
-    rw (front (c .before .before .before) .front) (ids-writable (c .before .before .before .before .before .before .before .before .before .before .before .before .before .before .args .key) (c .before .before .before .before .before .before .before .before .before .before .before .before .before .before .args .id ∷ []) (c .before .before .before .before .before .before .before .before .before .before .before .before .before .before .pre .0) (few .0) (few .1))
+    rw (front (c .before .before .before) .front) (ids-writable (c .before .before .before .before .before .before .before .before .before .before .before .before .before .before .args .tag) (c .before .before .before .before .before .before .before .before .before .before .before .before .before .before .pre .2) (c .before .before .before .before .before .before .before .before .before .before .before .before .before .before .args .key) (c .before .before .before .before .before .before .before .before .before .before .before .before .before .before .args .id ∷ []) (c .before .before .before .before .before .before .before .before .before .before .before .before .before .before .pre .0) (few .0) (few .1))
 
 same-length : tie.Need-same-length
 same-length c = search needs

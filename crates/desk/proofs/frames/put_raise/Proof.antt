@@ -11,8 +11,8 @@ use Rattle.desk.specs.declared.lists.Pick.{Pick}
 use Rattle.desk.specs.Limit.{unlimited, isLimit}
 use Rattle.desk.specs.Watch.{pickIds}
 use Rattle.desk.specs.Record.{watched}
-use Rattle.desk.specs.Command.{startKey, stopKey, uplimitKey, limitFrame, listedFrame}
-use Rattle.desk.specs.Call.{raiseCommands}
+use Rattle.desk.specs.Command.{noTag, startKey, stopKey, uplimitKey, limitFrame, listedFrame}
+use Rattle.desk.specs.Plan.{raiseCommands}
 use Rattle.desk.proofs.FrameParts.{fourParts, four-parts}
 use Rattle.desk.proofs.SoundLaws.{sound-parts}
 use Rattle.desk.proofs.WatchLists.{has-id}
@@ -34,13 +34,13 @@ w0 : (c : tie.Start) → Left c (now (c .args .out)) 0 (parts c)
 unfolding raiseCommands
 w0 c = start (now (c .args .out)) 0 (parts c) (rw (four-parts unlimited unlimited (others c) (c .args .id ∷ [])) (omega (arith, c .pre .2)))
 
-w1 : (c : tie.After-put-limit) → Left (c .before .before .before) (c .put-limit .last .0) (c .put-limit .result) (limitFrame uplimitKey unlimited ∷ listedFrame stopKey (others (c .before .before .before)) ∷ listedFrame startKey (c .before .before .before .args .id ∷ []) ∷ [])
+w1 : (c : tie.After-put-limit) → Left (c .before .before .before) (c .put-limit .last .0) (c .put-limit .result) (limitFrame noTag uplimitKey unlimited ∷ listedFrame noTag stopKey (others (c .before .before .before)) ∷ listedFrame noTag startKey (c .before .before .before .args .id ∷ []) ∷ [])
 w1 c = next-put (w0 (c .before .before .before)) (c .put-limit .ensures)
 
-w2 : (c : tie.After-put-limit2) → Left (c .before .before .before .before .before .before .before) (c .put-limit2 .last .0) (c .put-limit2 .result) (listedFrame stopKey (others (c .before .before .before .before .before .before .before)) ∷ listedFrame startKey (c .before .before .before .before .before .before .before .args .id ∷ []) ∷ [])
+w2 : (c : tie.After-put-limit2) → Left (c .before .before .before .before .before .before .before) (c .put-limit2 .last .0) (c .put-limit2 .result) (listedFrame noTag stopKey (others (c .before .before .before .before .before .before .before)) ∷ listedFrame noTag startKey (c .before .before .before .before .before .before .before .args .id ∷ []) ∷ [])
 w2 c = next-put (w1 (c .before .before .before .before)) (c .put-limit2 .ensures)
 
-w3 : (c : tie.After-put-listed) → Left (c .before .before .before .before .before .before .before .before .before .before .before) (c .put-listed .last .0) (c .put-listed .result) (listedFrame startKey (c .before .before .before .before .before .before .before .before .before .before .before .args .id ∷ []) ∷ [])
+w3 : (c : tie.After-put-listed) → Left (c .before .before .before .before .before .before .before .before .before .before .before) (c .put-listed .last .0) (c .put-listed .result) (listedFrame noTag startKey (c .before .before .before .before .before .before .before .before .before .before .before .args .id ∷ []) ∷ [])
 w3 c = next-put (w2 (c .before .before .before .before)) (c .put-listed .ensures)
 
 w4 : (c : tie.After-put-one) → Left (c .before .before .before .before .before .before .before .before .before .before .before .before .before .before .before) (c .put-one .last .0) (c .put-one .result) []
@@ -49,17 +49,17 @@ w4 c = next-put (w3 (c .before .before .before .before)) (c .put-one .ensures)
 
 put-limit-requires : tie.Need-put-limit-requires
 unfolding isLimit
-put-limit-requires c κs = (inl refl, refl)
+put-limit-requires c κs = (inl refl, refl, omega arith)
 
 put-limit-requires-2 : tie.Need-put-limit-requires-2
 unfolding isLimit
-put-limit-requires-2 c κs = (inr refl, refl)
+put-limit-requires-2 c κs = (inr refl, refl, omega arith)
 
 put-listed-requires : tie.Need-put-listed-requires
-put-listed-requires c κs = (inr refl, c .before .before .before .before .before .before .before .before .before .before .pre .0)
+put-listed-requires c κs = (inr refl, c .before .before .before .before .before .before .before .before .before .before .pre .0, omega arith)
 
 put-one-requires : tie.Need-put-one-requires
-put-one-requires c κs = (inl refl, has-id (c .before .before .before .before .before .before .before .before .before .before .before .before .before .before .args .id) (watched (c .before .before .before .before .before .before .before .before .before .before .before .before .before .before .args .d)) (sound-parts (c .before .before .before .before .before .before .before .before .before .before .before .before .before .before .args .d) (c .before .before .before .before .before .before .before .before .before .before .before .before .before .before .pre .0) .ids) (c .before .before .before .before .before .before .before .before .before .before .before .before .before .before .pre .1))
+put-one-requires c κs = (inl refl, has-id (c .before .before .before .before .before .before .before .before .before .before .before .before .before .before .args .id) (watched (c .before .before .before .before .before .before .before .before .before .before .before .before .before .before .args .d)) (sound-parts (c .before .before .before .before .before .before .before .before .before .before .before .before .before .before .args .d) (c .before .before .before .before .before .before .before .before .before .before .before .before .before .before .pre .0) .ids) (c .before .before .before .before .before .before .before .before .before .before .before .before .before .before .pre .1), omega arith)
 
 same-length : tie.Need-same-length
 same-length c = search needs
