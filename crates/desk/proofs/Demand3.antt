@@ -4,13 +4,13 @@
 use Prim.Native.Nat.{ℕ, _≤_}
 use native.Mathlib.Omega.{arith}
 use mathlib.Core.Path.{_≡_, refl, sym, ap, ap₂, subst, _∙_}
-use mathlib.Core.Bool.{Bool, true, false, cond, not}
-use mathlib.Core.List.{List, [], _∷_, _++_}
-use mathlib.Core.Option.{Option, some, none, Option·none-ne-some, Option·some-injective}
+use mathlib.Core.Bool.{Bool, true, false, cond, not, or-false, false≢true}
+use mathlib.Core.List.{List, [], _∷_, _++_, nil≢cons}
+use mathlib.Core.Option.{some}
 use lib.Dec.{eqb}
 use lib.IntN.{ℤ}
 use lib.ListN.{length, take, drop}
-use borrow.Author.Tests.{ne-eqb}
+use borrow.Author.Tests.{ne-eqb, eqb-true}
 use Rattle.desk.specs.declared.calls.Call.{Call}
 use Rattle.desk.specs.declared.watch.Watch.{Watch}
 use Rattle.desk.specs.declared.record.Desk.{Desk}
@@ -21,7 +21,7 @@ use Rattle.desk.specs.Command.{Command, framesOf}
 use Rattle.desk.specs.Refusal.{stands}
 use Rattle.desk.specs.Plan.{Outcome, deferred, deskAfter, plan}
 use Rattle.desk.specs.Calls.{framed, outcome, returned, bufferAfter}
-use Rattle.desk.specs.Machine.{Machine, handed, aloneAfter}
+use Rattle.desk.specs.Machine.{Machine, listed, handed, aloneAfter}
 use Rattle.desk.specs.Demands.{desk, standingAfter, Turn, World, after, turn, turns, atOpening, afterOpening, overridden, Demand3}
 use Rattle.desk.proofs.Cases.{by-cases, cond-cases}
 use Rattle.desk.proofs.Places.{take-places}
@@ -35,20 +35,20 @@ use Rattle.desk.proofs.Steps.{due, outcome-step}
 use Rattle.desk.proofs.WatchLists.{id-not-zero}
 
 -- ---- the override that stands is the record's
-abbrev standing : Desk → Option ℕ
-standing d = cond (stands d) (some (d .«override_id»)) none
+abbrev standing : Desk → List ℕ
+standing d = cond (stands d) (d .«override_id» ∷ []) []
 
 abbrev Follows : Call → Desk → Outcome (List Command) → Type 0
 Follows c d o = standing (o .desk) ≡ standingAfter c (o .code) (standing d)
 
-refused-follows : (c : Call) (n : ℕ) (x : Option ℕ) → 2 ≤ n → x ≡ standingAfter c n x
+refused-follows : (c : Call) (n : ℕ) (x : List ℕ) → 2 ≤ n → x ≡ standingAfter c n x
 unfolding standingAfter
 refused-follows (Call.Down m) n x h = refl
 refused-follows (Call.Up m) n x h = refl
 refused-follows (Call.Start y) n x h = refl
 refused-follows (Call.Stop y) n x h = refl
-refused-follows (Call.Raise y) n x h = ap (λ b. cond b (some y) x) (sym (ne-eqb n 0 (λ e. omega arith)))
-refused-follows Call.Clear n x h = ap (λ b. cond b none x) (sym (ne-eqb n 0 (λ e. omega arith)))
+refused-follows (Call.Raise y) n x h = ap (λ b. cond b (y ∷ x) x) (sym (ne-eqb n 0 (λ e. omega arith)))
+refused-follows Call.Clear n x h = ap (λ b. cond b [] x) (sym (ne-eqb n 0 (λ e. omega arith)))
 
 plan-follows : (c : Call) (d : Desk) → Accepted c d → Follows c d (plan c d)
 unfolding plan deskAfter standingAfter withDown withUp withRunning withOverride
@@ -56,7 +56,9 @@ plan-follows (Call.Down n) d ok = cond-cases (Follows (Call.Down n) d) (stands d
 plan-follows (Call.Up n) d ok = cond-cases (Follows (Call.Up n) d) (stands d) (λ _. refl) (λ _. refl)
 plan-follows (Call.Start x) d ok = cond-cases (Follows (Call.Start x) d) (stands d) (λ _. refl) (λ _. refl)
 plan-follows (Call.Stop x) d ok = cond-cases (Follows (Call.Stop x) d) (stands d) (λ _. refl) (λ _. refl)
-plan-follows (Call.Raise x) d ok = ap (λ b. cond (not b) (some x) none) (id-not-zero x (watched-id (Call.Raise x) d x ok refl))
+plan-follows (Call.Raise x) d ok =
+    ap (λ b. cond (not b) (x ∷ []) []) (id-not-zero x (watched-id (Call.Raise x) d x ok refl))
+    ∙ ap (λ b. x ∷ cond b (d .«override_id» ∷ []) []) (sym (ok .first))
 plan-follows Call.Clear d ok = refl
 
 outcome-follows : (c : Call) (room : ℕ) (d : Desk) → standing (outcome c room d .desk) ≡ standingAfter c (outcome c room d .code) (standing d)
@@ -118,13 +120,14 @@ module _ (watch : List Watch) (others : ℕ → Bool) where
       }
 
 -- what the invariant says, by whether an override stands
-none-stands : (b : Bool) (x : ℕ) (m o : Machine) → none ≡ cond b (some x) none → cond b o m ≡ m
-none-stands true x m o e = absurd (Option·none-ne-some x e)
+none-stands : (b : Bool) (x : ℕ) (m o : Machine) → [] ≡ cond b (x ∷ []) [] → cond b o m ≡ m
+none-stands true x m o e = absurd (nil≢cons e)
 none-stands false x m o e = refl
 
-one-stands : (b : Bool) (x y : ℕ) (m : Machine) (o : ℕ → Machine) → some y ≡ cond b (some x) none → cond b (o x) m ≡ o y
-one-stands true x y m o e = ap o (Option·some-injective x y (sym e))
-one-stands false x y m o e = absurd (Option·none-ne-some y (sym e))
+one-stands : (b : Bool) (x y : ℕ) (m : Machine) (o : ℕ → Machine) → listed y (cond b (x ∷ []) []) ≡ true → cond b (o x) m ≡ o y
+unfolding listed
+one-stands true x y m o e = ap o (eqb-true x y (sym (or-false (eqb x y)) ∙ e))
+one-stands false x y m o e = absurd (false≢true e)
 
 pub demand-3 : Demand3
 demand-3 watch down up others calls h =
@@ -132,5 +135,5 @@ demand-3 watch down up others calls h =
     let i = turns-keep watch others calls (afterOpening desk watch down up others) (opening-invariant watch others down up h) in
     let d = w .record-now in (
       λ e. i .right ∙ ap some (none-stands (stands d) (d .«override_id») (w .alone) (overridden watch others (d .«override_id»)) (sym e ∙ i .follows)),
-      λ x e. i .right ∙ ap some (one-stands (stands d) (d .«override_id») x (w .alone) (overridden watch others) (sym e ∙ i .follows)),
+      λ x e. i .right ∙ ap some (one-stands (stands d) (d .«override_id») x (w .alone) (overridden watch others) (ap (listed x) (sym (i .follows)) ∙ e)),
     )

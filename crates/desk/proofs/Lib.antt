@@ -30,3 +30,4 @@ pub mod Stays
 pub mod Refusals
 pub mod ListFixed
 pub mod DaemonTried
+pub mod Worthless

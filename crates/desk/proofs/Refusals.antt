@@ -1,25 +1,26 @@
--- Refusals keep the record and the lent buffer, a refused opening closes the desk, and only a raise and a clear move the override.
+-- Each number is given when its row holds, refusals keep the record and the lent buffer, a refused opening closes the desk, and only a raise and a clear move the override.
 -- Assumes nothing.
-use Prim.Native.Nat.{ℕ, _≤_}
+use Prim.Native.Nat.{ℕ, _≤_, _<_}
 use native.Mathlib.Omega.{arith}
 use mathlib.Core.Path.{_≡_, refl, sym, ap, _∙_}
-use mathlib.Core.Bool.{true, false, cond}
+use mathlib.Core.Bool.{Bool, true, false, cond}
 use mathlib.Core.List.{List, [], _∷_, _++_}
-use lib.Dec.{eqb}
-use borrow.Author.Tests.{ne-eqb}
+use lib.Dec.{eqb, leb}
+use borrow.Author.Tests.{ne-eqb, eq-eqb, eqb-true, eqb-false, le-leb, lt-leb, leb-true, leb-false}
 use lib.IntN.{ℤ}
 use lib.ListN.{length, drop}
 use Rattle.desk.specs.declared.record.Desk.{Desk}
 use Rattle.desk.specs.Record.{closed, openedWith, withDown, withUp, withOverride, withRunning}
 use Rattle.desk.specs.Opening.{openCode, refusedOpening, opening}
 use Rattle.desk.specs.Command.{Command, framesOf}
-use Rattle.desk.specs.Refusal.{stands}
+use Rattle.desk.specs.Refusal.{stands, callFault}
 use Rattle.desk.specs.declared.calls.Call.{Call}
-use Rattle.desk.specs.Plan.{Outcome, deskAfter, plan}
-use Rattle.desk.specs.Calls.{framed, outcome, returned, bufferAfter}
-use Rattle.desk.specs.Demands.{overrideAfter, RefusalKeeps, RefusalCloses, OverrideMoves}
+use Rattle.desk.specs.Plan.{Outcome, deferred, deskAfter, plan}
+use Rattle.desk.specs.Calls.{refused, decided, framed, delivered, outcome, returned, bufferAfter}
+use Rattle.desk.specs.Demands.{overrideAfter, NumbersGiven, RefusalKeeps, RefusalCloses, OverrideMoves}
 use Rattle.desk.proofs.Cases.{by-cases, cond-cases}
-use Rattle.desk.proofs.CallLaws.{Comes, outcome-cases}
+use Rattle.desk.proofs.RefusalLaws.{fault-code}
+use Rattle.desk.proofs.CallLaws.{Comes, outcome-refused, outcome-cases}
 
 -- an outcome that keeps the record where it refuses, and moves the override where it is accepted
 record Kept (c : Call) (d : Desk) (o : Outcome (List Command)) : Type 0 where
@@ -74,6 +75,50 @@ override-moves c room d =
     ap (λ (o : Outcome (List ℕ)). o .desk .«override_id») (k .is)
     ∙ k .holds .override
     ∙ ap (λ (n : ℕ). overrideAfter c n (d .«override_id»)) (sym (ap (λ (o : Outcome (List ℕ)). o .code) (k .is)))
+
+-- ---- each number is given when its row holds
+module _ (c : Call) (room : ℕ) (d : Desk) where
+  abbrev bytes : ℕ
+  bytes = length (framesOf (plan c d .sent))
+
+  code-refused : (callFault c d ≡ 0 → ⊥) → outcome c room d .code ≡ callFault c d
+  code-refused h = ap (λ (o : Outcome (List ℕ)). o .code) (outcome-refused c room d h)
+
+  module _ (ok : callFault c d ≡ 0) where
+    code-planned : outcome c room d .code ≡ cond (leb bytes room) (plan c d .code) 34
+    unfolding outcome decided framed delivered
+    code-planned = rw (eq-eqb (callFault c d) 0 ok) (cond-code (leb bytes room))
+      where
+        cond-code : (b : Bool) → cond b (framed (plan c d)) (refused 34 d) .code ≡ cond b (plan c d .code) 34
+        cond-code true = refl
+        cond-code false = refl
+
+    code-short : room < bytes → outcome c room d .code ≡ 34
+    code-short h = code-planned ∙ ap (λ b. cond b (plan c d .code) 34) (lt-leb bytes room h)
+
+    code-accepted : bytes ≤ room → outcome c room d .code ≤ 1
+    unfolding plan
+    code-accepted h =
+        let same : outcome c room d .code ≡ plan c d .code = code-planned ∙ ap (λ b. cond b (plan c d .code) 34) (le-leb bytes room h) in
+        let small : plan c d .code ≤ 1 = cond-cases (λ (o : Outcome (List Command)). o .code ≤ 1) (deferred c d) (λ _. omega arith) (λ _. omega arith) in
+        omega (arith, same, small)
+
+  accepted-rows : outcome c room d .code ≤ 1 → (callFault c d ≡ 0) × (bytes ≤ room)
+  accepted-rows small =
+      by-cases (λ b. eqb (callFault c d) 0 ≡ b → (callFault c d ≡ 0) × (bytes ≤ room)) (eqb (callFault c d) 0)
+      (λ _ e.
+      let ok = eqb-true (callFault c d) 0 e in (
+        ok,
+        by-cases (λ b. leb bytes room ≡ b → bytes ≤ room) (leb bytes room)
+            (λ _ fits. leb-true bytes room fits)
+            (λ _ short. let z : ⊥ = omega (arith, small, code-short ok (leb-false bytes room short)) in absurd z)
+            refl,
+      ))
+      (λ _ e. let z : ⊥ = omega (arith, small, code-refused (eqb-false (callFault c d) 0 e), fault-code c d (eqb-false (callFault c d) 0 e)) in absurd z)
+      refl
+
+pub numbers-given : NumbersGiven
+numbers-given c room d = ((accepted-rows c room d, λ p. code-accepted c room d (p .0) (p .1)), code-refused c room d, code-short c room d)
 
 pub refusal-closes : RefusalCloses
 unfolding opening refusedOpening

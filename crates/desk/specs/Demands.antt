@@ -1,10 +1,11 @@
 -- What is proved of the desk as a whole. Each statement is a type; its proof stands in proofs/ under the same name in lower case.
 -- Assumes nothing.
-use Prim.Native.Nat.{ℕ, _≤_}
+use Prim.Native.Nat.{ℕ, _≤_, _<_}
 use mathlib.Core.Path.{_≡_}
+use mathlib.Core.Logic.{_↔_}
 use mathlib.Core.Bool.{Bool, true, cond, not, _&&_, _||_}
 use mathlib.Core.List.{List, [], _∷_, map}
-use mathlib.Core.Option.{Option, some, none}
+use mathlib.Core.Option.{Option, some}
 use lib.Dec.{eqb}
 use lib.IntN.{ℤ}
 use lib.ListN.{length, take}
@@ -15,13 +16,15 @@ use Rattle.desk.specs.Limit.{unlimited}
 use Rattle.desk.specs.Watch.{mostWatched, allIds, has, marked}
 use Rattle.desk.specs.Record.{closed}
 use Rattle.desk.specs.Opening.{opening}
-use Rattle.desk.specs.Command.{idList, longest}
+use Rattle.desk.specs.Command.{idList, framesOf, longest}
+use Rattle.desk.specs.Refusal.{callFault}
+use Rattle.desk.specs.Plan.{Outcome, plan}
 use Rattle.desk.specs.Calls.{outcome, returned, bufferAfter}
-use Rattle.desk.specs.Machine.{Machine, handed, idsIn, aloneAfter}
+use Rattle.desk.specs.Machine.{Machine, listed, handed, idsIn, aloneAfter}
 
 -- ---- demand 3: the builds that it judges
 -- what a call of a build answers: its code, how many bytes it wrote, the build's record and the lent buffer after it
-pub record Answer (Record : Type 0) : Type 0 where
+pub record Answered (Record : Type 0) : Type 0 where
   pub code : ℕ
   pub count : ℕ
   pub record-after : Record
@@ -31,26 +34,30 @@ pub record Answer (Record : Type 0) : Type 0 where
 pub record Build : Type 1 where
   pub Record : Type 0
   pub opened : List Watch → ℤ → ℤ → Record
-  pub called : Call → List ℕ → Record → Answer Record
+  pub called : Call → List ℕ → Record → Answered Record
 
--- ours
-abbrev pub desk : Build
-desk = record {
+-- the build whose calls have such outcomes
+abbrev pub buildOf : (Call → ℕ → Desk → Outcome (List ℕ)) → Build
+buildOf outcomes = record {
   Record = Desk;
   opened = λ watch down up. opening (length watch) watch down up .desk;
   called = λ c before d.
-      let o = outcome c (length before) d in
+      let o = outcomes c (length before) d in
       record { code = returned o .code; count = returned o .count; record-after = returned o .desk; buffer = bufferAfter o before };
 }
 
--- ---- the override: it stands on x from a raise on x with answer 0 to the next clear with answer 0
-unfoldable pub standingAfter : Call → ℕ → Option ℕ → Option ℕ
+-- ours
+abbrev pub desk : Build
+desk = buildOf outcome
+
+-- ---- the overrides that stand: one stands on x from a raise on x with answer 0 to the next clear with answer 0
+unfoldable pub standingAfter : Call → ℕ → List ℕ → List ℕ
 standingAfter (Call.Down n) code standing = standing
 standingAfter (Call.Up n) code standing = standing
 standingAfter (Call.Start x) code standing = standing
 standingAfter (Call.Stop x) code standing = standing
-standingAfter (Call.Raise x) code standing = cond (eqb code 0) (some x) standing
-standingAfter Call.Clear code standing = cond (eqb code 0) none standing
+standingAfter (Call.Raise x) code standing = cond (eqb code 0) (x ∷ standing) standing
+standingAfter Call.Clear code standing = cond (eqb code 0) [] standing
 
 -- ---- the world of demand 3
 -- a call with the buffer that it is lent
@@ -58,15 +65,15 @@ pub record Turn : Type 0 where
   pub call : Call
   pub buffer : List ℕ
 
--- the build's record, both machines, and the override that stands, if any
+-- the build's record, both machines, and the IDs on which an override stands
 pub record World (Record : Type 0) : Type 0 where
   pub record-now : Record
   pub daemon : Option Machine
   pub alone : Machine
-  pub standing : Option ℕ
+  pub standing : List ℕ
 
 -- a call: the daemon takes the lent buffer's first bytes as the call left them, as many as its count
-unfoldable pub after : {R : Type 0} → Turn → World R → Answer R → World R
+unfoldable pub after : {R : Type 0} → Turn → World R → Answered R → World R
 after t w a =
     record {
       record-now = a .record-after;
@@ -90,7 +97,7 @@ atOpening watch down up others = record { down = down; up = up; runs = λ x. con
 unfoldable pub afterOpening : (b : Build) → List Watch → ℤ → ℤ → (ℕ → Bool) → World (b .Record)
 afterOpening b watch down up others =
     let m = atOpening watch down up others in
-    record { record-now = b .opened watch down up; daemon = some m; alone = m; standing = none }
+    record { record-now = b .opened watch down up; daemon = some m; alone = m; standing = [] }
 
 -- the daemon under an override on x: both limits are off, and x and the unwatched IDs that ran at opening run, no more
 unfoldable pub overridden : List Watch → (ℕ → Bool) → ℕ → Machine
@@ -102,13 +109,24 @@ abbrev pub Demand3For : Build → Type 0
 Demand3For b =
     (watch : List Watch) (down up : ℤ) (others : ℕ → Bool) (calls : List Turn) → opening (length watch) watch down up .code ≡ 0
     → let w = turns b calls (afterOpening b watch down up others) in
-    (w .standing ≡ none → w .daemon ≡ some (w .alone))
-    × ((x : ℕ) → w .standing ≡ some x → w .daemon ≡ some (overridden watch others x))
+    (w .standing ≡ [] → w .daemon ≡ some (w .alone))
+    × ((x : ℕ) → listed x (w .standing) ≡ true → w .daemon ≡ some (overridden watch others x))
 
 abbrev pub Demand3 : Type 0
 Demand3 = Demand3For desk
 
 -- ---- demand 1, beside the promises of the functions
+-- each number is given when its row holds and never otherwise: a call is accepted exactly where no row holds, a row before the room
+-- gives its code, and 34 is given where only the room is short
+abbrev pub NumbersGivenFor : (Call → ℕ → Desk → ℕ) → Type 0
+NumbersGivenFor code = (c : Call) (room : ℕ) (d : Desk) → let bytes = length (framesOf (plan c d .sent)) in
+    ((code c room d ≤ 1) ↔ ((callFault c d ≡ 0) × (bytes ≤ room)))
+    × ((callFault c d ≡ 0 → ⊥) → code c room d ≡ callFault c d)
+    × (callFault c d ≡ 0 → room < bytes → code c room d ≡ 34)
+
+abbrev pub NumbersGiven : Type 0
+NumbersGiven = NumbersGivenFor (λ c room d. outcome c room d .code)
+
 -- a refused call returns the record as it was handed in and count 0, and leaves the lent buffer as it was
 abbrev pub RefusalKeeps : Type 0
 RefusalKeeps = (c : Call) (before : List ℕ) (d : Desk) → let o = outcome c (length before) d in

@@ -9,3 +9,4 @@ pub mod Calls
 pub mod Machine
 pub mod Demands
 pub mod Tries
+pub mod Worthless

@@ -1,0 +1,100 @@
+-- Desks that are worthless or wrong (document 01, 'What each result must determine' and 'Easy ways to go wrong'), and that demand 1
+-- or demand 3 itself rules each of them out.
+-- Assumes nothing.
+use Prim.Native.Nat.{ℕ, _≤_}
+use mathlib.Core.Bool.{Bool, true, false, cond, not, _&&_}
+use mathlib.Core.List.{List, []}
+use lib.Dec.{eqb}
+use lib.ListN.{length}
+use Rattle.desk.specs.declared.calls.Call.{Call}
+use Rattle.desk.specs.declared.record.Desk.{Desk}
+use Rattle.desk.specs.Record.{withOverride}
+use Rattle.desk.specs.Opening.{opening}
+use Rattle.desk.specs.Command.{framesOf}
+use Rattle.desk.specs.Refusal.{raisesAgain}
+use Rattle.desk.specs.Plan.{Outcome, commandsOf}
+use Rattle.desk.specs.Calls.{outcome, returned, bufferAfter}
+use Rattle.desk.specs.Demands.{Answered, Build, buildOf, NumbersGivenFor, Demand3For}
+
+-- ---- by demand 1
+-- a desk that refuses always, by whatever number
+abbrev pub AlwaysRefusesFalls : Type 0
+AlwaysRefusesFalls = (n : ℕ) → 2 ≤ n → NumbersGivenFor (λ c room d. n) → ⊥
+
+-- ---- by demand 3
+-- a desk that records but never writes
+abbrev silent : Outcome (List ℕ) → Outcome (List ℕ)
+silent o = record { code = o .code; desk = o .desk; sent = [] }
+
+unfoldable pub neverWrites : Build
+neverWrites = buildOf (λ c room d. silent (outcome c room d))
+
+abbrev pub NeverWritesFalls : Type 0
+NeverWritesFalls = Demand3For neverWrites → ⊥
+
+-- one whose deferred requests are written all the same
+unfoldable pub heldWrites : Build
+heldWrites = buildOf (λ c room d.
+    let o = outcome c room d in
+    cond (eqb (o .code) 1) (record { code = 1; desk = o .desk; sent = framesOf (commandsOf c d) }) o)
+
+abbrev pub HeldWritesFalls : Type 0
+HeldWritesFalls = Demand3For heldWrites → ⊥
+
+-- one in which a second raise moves the override
+unfoldable pub secondRaise : Build
+secondRaise = buildOf (λ c room d. outcome c room (cond (raisesAgain c d) (withOverride 0 d) d))
+
+abbrev pub SecondRaiseFalls : Type 0
+SecondRaiseFalls = Demand3For secondRaise → ⊥
+
+-- a record with another one beside it, or a mark
+pub record Beside (A : Type 0) : Type 0 where
+  pub now : Desk
+  pub kept : A
+
+abbrev answered : {A : Type 0} → Outcome (List ℕ) → List ℕ → A → Answered (Beside A)
+answered o before kept =
+    record { code = returned o .code; count = returned o .count; record-after = record { now = returned o .desk; kept = kept }; buffer = bufferAfter o before }
+
+abbrev isClear : Call → Bool
+isClear (Call.Down n) = false
+isClear (Call.Up n) = false
+isClear (Call.Start x) = false
+isClear (Call.Stop x) = false
+isClear (Call.Raise x) = false
+isClear Call.Clear = true
+
+abbrev isRaise : Call → Bool
+isRaise (Call.Down n) = false
+isRaise (Call.Up n) = false
+isRaise (Call.Start x) = false
+isRaise (Call.Stop x) = false
+isRaise (Call.Raise x) = true
+isRaise Call.Clear = false
+
+-- one that restores after the first raise only: from the second clear on it writes nothing
+unfoldable pub restoresOnce : Build
+restoresOnce = record {
+  Record = Beside Bool;
+  opened = λ watch down up. record { now = opening (length watch) watch down up .desk; kept = false };
+  called = λ c before r.
+      let o = outcome c (length before) (r .now) in
+      answered (cond (isClear c && r .kept) (silent o) o) before (cond (isClear c) true (r .kept));
+}
+
+abbrev pub RestoresOnceFalls : Type 0
+RestoresOnceFalls = Demand3For restoresOnce → ⊥
+
+-- one that restores a copy taken at the raise
+unfoldable pub restoresCopy : Build
+restoresCopy = record {
+  Record = Beside Desk;
+  opened = λ watch down up. let d = opening (length watch) watch down up .desk in record { now = d; kept = d };
+  called = λ c before r.
+      let o = outcome c (length before) (cond (isClear c) (r .kept) (r .now)) in
+      answered o before (cond (isRaise c && eqb (o .code) 0) (o .desk) (r .kept));
+}
+
+abbrev pub RestoresCopyFalls : Type 0
+RestoresCopyFalls = Demand3For restoresCopy → ⊥
