@@ -18,10 +18,6 @@ pub record-none : (l : List Watch) (n i : ℕ) → n ≤ i → drop i (take n l)
 record-none l n i h = drop-of-length-le (take n l) {i = i} (omega (arith, length-take n l))
 
 module _ (l : List Watch) (n i : ℕ) (h : n ≤ i) where
-  pub has-none : (id : ℕ) → has id (drop i (take n l)) ≡ false
-  unfolding has
-  has-none id = rw (record-none l n i h)
-
   pub place-none : (id : ℕ) → i + place id (drop i (take n l)) ≡ i
   unfolding place
   place-none id = rw (record-none l n i h) (add-zero i)
@@ -34,15 +30,6 @@ module _ (l : List Watch) (n i : ℕ) (h : i < n) (g : n ≤ length l) where
   -- what is left of the first n records begins with record i
   pub record-next : drop i (take n l) ≡ getD l i empty ∷ drop (i + 1) (take n l)
   record-next = rw (add-one, ← getD-take n l i empty h) (drop-cons (take n l) i empty (rw (length-take-le n l g) h))
-
-  -- record i has the ID, or it does not and the records after it decide
-  pub has-here : (id : ℕ) → getD l i empty .id ≡ id → has id (drop i (take n l)) ≡ true
-  unfolding has
-  has-here id e = rw (record-next, eq-eqb _ _ e)
-
-  pub has-past : (id : ℕ) → (getD l i empty .id ≡ id → ⊥) → has id (drop i (take n l)) ≡ has id (drop (i + 1) (take n l))
-  unfolding has
-  has-past id e = rw (record-next, ne-eqb _ _ e)
 
   -- the ID's place is i, or it is among the records after it
   pub place-here : (id : ℕ) → getD l i empty .id ≡ id → i + place id (drop i (take n l)) ≡ i

@@ -5,9 +5,9 @@ use native.Mathlib.Omega.{arith}
 use mathlib.Core.Path.{_≡_, refl, sym, ap, ap₂, _∙_}
 use mathlib.Core.Bool.{Bool, true, false, cond, not, _&&_, _||_, false≢true, or-false, or-true, or-assoc}
 use mathlib.Core.List.{List, [], _∷_, _++_}
-use lib.Dec.{eqb}
+use lib.Dec.{eqb, ltb}
 use lib.ListN.{length, set}
-use borrow.Author.Tests.{eqb-true, eqb-false, ne-eqb, not-true, eq-eqb}
+use borrow.Author.Tests.{eqb-true, eqb-false, ne-eqb, not-true, eq-eqb, lt-ltb, le-ltb}
 use Rattle.desk.specs.declared.watch.Watch.{Watch}
 use Rattle.desk.specs.Watch.{isId, has, place, marked, fault}
 use Rattle.desk.proofs.Cases.{by-cases, both, neither, and-true}
@@ -66,6 +66,23 @@ place-below x (w ∷ ws) h =
     (λ e _. suc-le-suc zero-le)
     (λ e g. suc-le-suc (place-below x ws g))
     h
+
+place-none : (x : ℕ) (ws : List Watch) → has x ws ≡ false → place x ws ≡ length ws
+unfolding has place
+place-none x [] h = refl
+place-none x (w ∷ ws) h =
+    by-cases (λ b. (b || has x ws) ≡ false → cond b 0 (suc (place x ws)) ≡ suc (length ws)) (eqb (w .id) x)
+    (λ e g. absurd (false≢true (sym g)))
+    (λ e g. ap suc (place-none x ws g))
+    h
+
+-- an ID is among the records where its place is one of theirs
+pub has-place : (x n : ℕ) (ws : List Watch) → length ws ≡ n → ltb (place x ws) n ≡ has x ws
+has-place x n ws e =
+    by-cases (λ b. has x ws ≡ b → ltb (place x ws) n ≡ b) (has x ws)
+    (λ _ h. lt-ltb (place x ws) n (omega (arith, e, place-below x ws h)))
+    (λ _ h. le-ltb (place x ws) n (omega (arith, e, place-none x ws h)))
+    refl
 
 pub has-apart : (x y : ℕ) (ws : List Watch) → has x ws ≡ true → has y ws ≡ false → eqb x y ≡ false
 has-apart x y ws h g = ne-eqb x y (λ e. false≢true (sym g ∙ ap (λ z. has z ws) (sym e) ∙ h))

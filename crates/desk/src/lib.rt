@@ -1,14 +1,30 @@
 // The override desk of document 01: it keeps what is desired of the daemon's limits and watched transfers, gives one transfer
 // the whole link while an override stands, and restores what is desired when it is cleared.
-pub mod calls;
+// Every function here takes any record and any buffer: what is bad is refused by document 01's numbers, and a refusal changes
+// nothing. The record goes in and comes back by value.
+mod calls;
 mod change;
-pub mod done;
+mod done;
 mod frames;
-pub mod limit;
+mod limit;
 mod lists;
-pub mod opening;
+mod opening;
 mod plan;
-pub mod record;
+mod record;
 mod refusal;
 mod sound;
-pub mod watch;
+mod watch;
+
+pub use calls::Call;
+pub use calls::perform;
+pub use done::Done;
+pub use done::LONGEST;
+pub use limit::Limit;
+pub use limit::OptionalLimit;
+pub use opening::Opened;
+pub use opening::open;
+pub use opening::open_records;
+pub use record::Desk;
+pub use record::closed_desk;
+pub use watch::PLACES;
+pub use watch::Watch;

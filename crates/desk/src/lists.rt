@@ -38,21 +38,6 @@ pub fn picks(pick: Pick, w: Watch) -> bool
     }
 }
 
-// Is an ID among the first n places.
-pub fn has_id(places: [Watch; PLACES], n: usize, id: u32) -> bool
-    requires { ⌜ n ≤ mostWatched ⌝ }
-    ensures { λ r. ⌜ r ≡ has id (take n places) ⌝ }
-{
-    let mut i: usize = 0;
-    while i < n {
-        if places[i].id == id {
-            return true;
-        }
-        i += 1;
-    }
-    false
-}
-
 // The place of an ID among the first n; n where it is not there.
 pub fn place_of(places: [Watch; PLACES], n: usize, id: u32) -> usize
     requires { ⌜ n ≤ mostWatched ⌝ }
@@ -66,6 +51,14 @@ pub fn place_of(places: [Watch; PLACES], n: usize, id: u32) -> usize
         i += 1;
     }
     i
+}
+
+// Is an ID among the first n places.
+pub fn has_id(places: [Watch; PLACES], n: usize, id: u32) -> bool
+    requires { ⌜ n ≤ mostWatched ⌝ }
+    ensures { λ r. ⌜ r ≡ has id (take n places) ⌝ }
+{
+    place_of(places, n, id) < n
 }
 
 // The first fault of the first n records: an ID out of range, an ID again, or 0 for none.

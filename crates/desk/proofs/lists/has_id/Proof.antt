@@ -1,55 +1,18 @@
--- `desk::lists::has_id` meets its contract. The invariant: what the places from i on say is what all say.
+-- `desk::lists::has_id` meets its contract.
 -- Assumes nothing.
-use mathlib.Core.Path.{_≡_, refl, sym, _∙_}
-use Prim.Native.Nat.{_≤_, _-_}
 use native.Mathlib.Omega.{arith}
-use lib.ListN.{take, drop}
-use Rattle.desk.specs.Watch.{has}
-use Rattle.desk.proofs.Scans.{has-here, has-past, has-none}
+use lib.ListN.{take}
+use lib.Seq.{length-take-le}
+use Rattle.desk.proofs.WatchLists.{has-place}
+use borrow.Author.Needs.{needs}
 use Rattle.desk.proofs.lists.has_id.Statement.{statement}
 use Rattle.desk.proofs.lists.has_id.Tie as tie
 
-abbrev Inv-loop : tie.InvT-loop
-Inv-loop n id places i₀ i = (i ≤ n) × (has id (take n places) ≡ has id (drop i (take n places)))
+place-of-requires : tie.Need-place-of-requires
+place-of-requires c κs = search needs
 
-abbrev μ-loop : tie.MeasureT-loop
-μ-loop n id places i₀ i = n - i
-
-loop-holds : tie.Need-loop-holds Inv-loop μ-loop
-loop-holds c = (omega arith, refl)
-
-mul-if1 : tie.Need-mul-if1 Inv-loop μ-loop
-mul-if1 c = omega arith
-
-element-copy-out-if1 : tie.Need-element-copy-out-if1 Inv-loop μ-loop
-element-copy-out-if1 c = omega arith
-
-returns : tie.Need-returns Inv-loop μ-loop
-returns c = sym (c .before .before .loop .inv .1 ∙ has-here (c .before .before .before .args .t1) (c .before .before .before .args .n) (c .before .before .loop .i) (omega arith) (omega (arith, c .before .before .before .good .0 .1 .0 .1)) (c .before .before .before .args .id) (c .if1 .taken))
-
-add-i : tie.Need-add-i Inv-loop μ-loop
-add-i c = omega arith
-
-loop-less : tie.Need-loop-less Inv-loop μ-loop
-loop-less c = omega arith
-
-loop-again : tie.Need-loop-again Inv-loop μ-loop
-loop-again c = (omega arith, c .before .before .loop .inv .1 ∙ has-past (c .before .before .before .args .t1) (c .before .before .before .args .n) (c .before .before .loop .i) (omega arith) (omega (arith, c .before .before .before .good .0 .1 .0 .1)) (c .before .before .before .args .id) (c .if1 .left))
-
-returns-2 : tie.Need-returns-2 Inv-loop μ-loop
-returns-2 c = sym (c .before .loop .inv .1 ∙ has-none (c .before .before .args .t1) (c .before .before .args .n) (c .before .loop .i) (omega arith) (c .before .before .args .id))
+returns : tie.Need-returns
+returns c = rw (c .place-of .ensures) (has-place (c .before .args .id) (c .before .args .n) (take (c .before .args .n) (c .before .args .places)) (length-take-le (c .before .args .n) (c .before .args .places) (omega (arith, c .before .pre, c .before .good .0 .1 .0 .1))))
 
 pub has-id-spec : {M : Type 1} → statement M
-has-id-spec =
-    tie.close
-    (tie.spec
-    Inv-loop
-    μ-loop
-    loop-holds
-    mul-if1
-    element-copy-out-if1
-    returns
-    add-i
-    loop-less
-    loop-again
-    returns-2)
+has-id-spec = tie.close (tie.spec place-of-requires returns)
