@@ -31,7 +31,8 @@ use Rattle.desk.specs.Machine.{Machine, obey, idsIn, limitCommand, idsCo
 use Rattle.desk.proofs.Cases.{both}
 use Rattle.desk.proofs.CommandLaws.{FewIds, Sendable, AllSendable, obeyAll}
 use Rattle.desk.proofs.ReadsIds.{ids-read}
-use Rattle.desk.proofs.Writes.{limit-writable, ids-writable}
+use Rattle.desk.proofs.Writes.{writable-answer, limit-writable, ids-writable}
+use Rattle.desk.proofs.FrameLengths.{limit-room, ids-room}
 
 limit-range : (n : ℤ) → isLimit n ≡ true → InRange n
 unfolding isLimit
@@ -67,7 +68,7 @@ module _ (tag : ℕ) (small : tag ≤ largestTag) where
       → Reads tag (limitFrame tag key n) rest c
   unfolding messageFrame contentCommand
   limit-reads key n rest c k h e =
-      let r = reads-back key tag longest (length (limitFrame tag key n)) (Given.Integer n) [] rest (limit-range n h) (limit-writable tag small key n k h) in
+      let r = reads-back key tag longest (length (limitFrame tag key n)) (Given.Integer n) [] rest (limit-range n h) (writable-answer tag key (Given.Integer n) [] longest (limit-writable tag small key n k h) (limit-room tag small key n k h)) in
       record {
         content = r .0;
         key = key;
@@ -79,7 +80,7 @@ module _ (tag : ℕ) (small : tag ≤ largestTag) where
       → Reads tag (idsFrame tag key ids) rest c
   unfolding messageFrame contentCommand
   ids-reads key ids rest c k class h e =
-      let r = reads-back key tag longest (length (idsFrame tag key ids)) Given.Bytes (idList ids) rest tt (ids-writable tag small key ids k (h .0) (h .1)) in
+      let r = reads-back key tag longest (length (idsFrame tag key ids)) Given.Bytes (idList ids) rest tt (writable-answer tag key Given.Bytes (idList ids) longest (ids-writable tag small key ids k (h .0) (h .1)) (ids-room tag small key ids k (h .0) (h .1))) in
       let at = r .2 .0 in
       let named : r .0 ≡ part at (length (idList ids)) = r .2 .1 ∙ ap (λ (f : Class). bytesNamed f at (length (idList ids))) class in
       record {

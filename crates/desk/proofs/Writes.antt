@@ -1,12 +1,12 @@
 -- The frame writer writes the desk's frames into the most bytes that a call writes.
 -- Assumes nothing.
-use Prim.Native.Nat.{ℕ, _≤_}
+use Prim.Native.Nat.{ℕ, _≤_, _<_}
 use mathlib.Core.Path.{_≡_, refl, sym, ap, subst, _∙_}
 use mathlib.Core.Logic.{⊎-elim, inl, inr}
 use mathlib.Core.Bool.{true}
 use mathlib.Core.List.{List, [], _∷_}
 use native.Mathlib.Omega.{arith}
-use borrow.Author.Tests.{le-leb}
+use borrow.Author.Tests.{le-leb, lt-leb}
 use lib.IntN.{ℤ}
 use lib.ListN.{length}
 use Rattle.bencode.specs.Value.{list, encode}
@@ -15,7 +15,8 @@ use Rattle.ipc.specs.declared.write.Written.{Written}
 use Rattle.ipc.specs.Ids.{largestTag}
 use Rattle.ipc.specs.Keys.{classOf, isWritten, listed}
 use Rattle.ipc.specs.Meaning.{isId as isIdValue, every}
-use Rattle.ipc.specs.Write.{isIdList, valueFits, payloadOf, messageFault, writeAnswer}
+use Rattle.ipc.specs.Header.{largestPayload}
+use Rattle.ipc.specs.Write.{isIdList, valueFits, payloadOf, messageFault, writeAnswer, frameOf, fitted}
 use Rattle.ipc.proofs.IdLists.{id-list-exactly}
 use Rattle.ipc.proofs.Inverts.{and-left, and-right}
 use Rattle.ipc.proofs.OutcomeLaws.{frame-length, fitted-count}
@@ -24,12 +25,24 @@ use Rattle.desk.specs.Watch.{isId, allIds}
 use Rattle.desk.specs.Command.{downlimitKey, startKey, stopKey, uplimitKey, values, idList, messageFrame, longest, Writable, LimitKey, ListKey}
 use Rattle.desk.proofs.FrameLengths.{limit-room, ids-room}
 
--- a message that is in order and has room
+-- a message that is in order and no longer than the longest call
 writable : (tag key : ℕ) (given : Given) (s : List ℕ) → messageFault key given s tag ≡ 0 → length (messageFrame tag key given s) ≤ longest → Writable tag key given s
+unfolding messageFrame
+writable tag key given s e h = (e, omega (arith, frame-length (payloadOf key given s tag)))
+
+-- it is written into any room that its frame has
+pub writable-answer : (tag key : ℕ) (given : Given) (s : List ℕ) (room : ℕ) → Writable tag key given s → length (messageFrame tag key given s) ≤ room
+    → writeAnswer key given s tag room ≡ Written.Count (length (messageFrame tag key given s))
 unfolding writeAnswer messageFrame
-writable tag key given s e h =
+writable-answer tag key given s room w h =
     let size = frame-length (payloadOf key given s tag) in
-    rw e (fitted-count (payloadOf key given s tag) longest (omega (arith, size)) (omega (arith, size)) ∙ ap Written.Count (sym size))
+    rw (w .0) (fitted-count (payloadOf key given s tag) room (w .1) (omega (arith, size)) ∙ ap Written.Count (sym size))
+
+-- and refused with 44 in any other
+pub writable-short : (tag key : ℕ) (given : Given) (s : List ℕ) (room : ℕ) → Writable tag key given s → room < length (messageFrame tag key given s)
+    → writeAnswer key given s tag room ≡ Written.Refused 44
+unfolding writeAnswer messageFrame fitted
+writable-short tag key given s room w h = rw (w .0, le-leb (length (payloadOf key given s tag)) largestPayload (w .1), lt-leb (length (frameOf (payloadOf key given s tag))) room h) refl
 
 -- ---- lists of torrent IDs
 each-id : (ids : List ℕ) → allIds ids ≡ true → every isIdValue (values ids) ≡ true

@@ -1,6 +1,6 @@
 -- The commands that the desk sends, and their frames as the frame writer writes them (document 01, 'The desk').
 -- Assumes nothing.
-use Prim.Native.Nat.{ℕ}
+use Prim.Native.Nat.{ℕ, _≤_}
 use mathlib.Core.Path.{_≡_}
 use mathlib.Core.Logic.{_⊎_}
 use mathlib.Core.List.{List, [], _∷_, _++_}
@@ -8,8 +8,8 @@ use lib.IntN.{ℤ, pos}
 use lib.ListN.{length}
 use Rattle.bencode.specs.Value.{integer, list, Values, no-value, value, encode}
 use Rattle.ipc.specs.declared.write.Given.{Given}
-use Rattle.ipc.specs.declared.write.Written.{Written}
-use Rattle.ipc.specs.Write.{payloadOf, frameOf, writeAnswer}
+use Rattle.ipc.specs.Header.{largestPayload}
+use Rattle.ipc.specs.Write.{payloadOf, frameOf, messageFault}
 
 -- downlimit, uplimit, start and stop
 pub data Command : Type 0 where
@@ -80,9 +80,9 @@ unfoldable pub listedFrame : ℕ → ℕ → List ℕ → List ℕ
 listedFrame tag key [] = []
 listedFrame tag key (x ∷ xs) = idsFrame tag key (x ∷ xs)
 
--- the frame writer writes a message into so many bytes
+-- the frame writer writes a message wherever its frame has room
 abbrev pub Writable : ℕ → ℕ → Given → List ℕ → Type 0
-Writable tag key given s = writeAnswer key given s tag longest ≡ Written.Count (length (messageFrame tag key given s))
+Writable tag key given s = (messageFault key given s tag ≡ 0) × (length (payloadOf key given s tag) ≤ largestPayload)
 
 abbrev pub LimitKey : ℕ → Type 0
 LimitKey key = (key ≡ downlimitKey) ⊎ (key ≡ uplimitKey)

@@ -39,14 +39,16 @@ pub const NO_TAG: u32 = 0;
 // The bytes of a list that holds nothing.
 const EMPTY_LIST: usize = 2;
 
-// Puts the frame of a message.
+// Puts the frame of a message: the frame writer is lent the buffer from an offset on.
 fn put_message(out: &mut [u8], at: usize, key: u8, given: Given, s: &[u8], tag: u32) -> usize
     requires { ⌜ Writable tag key given (now s) ⌝ }
     ensures { λ r. ⌜ Put (now (out .entry)) at (messageFrame tag key given (now (s .entry))) (now (out .exit)) r ⌝ }
 {
-    let mut frame = [0u8; LONGEST];
-    match write(key, given, s, tag, &mut frame) {
-        Written::Count(n) => put_bytes(out, at, &frame[..n]),
+    if out.len() < at {
+        return at;
+    }
+    match write(key, given, s, tag, &mut out[at..]) {
+        Written::Count(n) => at + n,
         Written::Refused(_) => at,
     }
 }

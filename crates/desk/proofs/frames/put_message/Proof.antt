@@ -1,25 +1,23 @@
 -- `desk::frames::put_message` meets its contract.
 -- Assumes nothing.
-use mathlib.Core.Path.{refl, subst}
-use mathlib.Core.List.{List}
+use native.Mathlib.Omega.{arith}
 use denote.Ref.{now}
-use Rattle.bencode.specs.Put.{Put}
-use Rattle.desk.specs.Command.{messageFrame}
-use Rattle.desk.proofs.PutFrames.{Front, front-count, never-refused, frame-front}
+use Rattle.desk.proofs.PutFrames.{part-counted, part-put, part-kept, put-past}
 use borrow.Author.Needs.{needs}
 use Rattle.desk.proofs.frames.put_message.Statement.{statement}
 use Rattle.desk.proofs.frames.put_message.Tie as tie
 
--- the writer left the frame at the front
-front : (c : tie.After-n) →
-    let a = c .before .before .before .before .before .before .before .args in
-    Front (messageFrame (a .tag) (a .key) (a .given) (now (a .s))) (c .before .before .before .write .last .1 .1 .1 .1 .0) (c .n .given .0 .0)
-front c =
-    let a = c .before .before .before .before .before .before .before .args in
-    frame-front (a .tag) (a .key) (a .given) (now (a .s)) (c .before .before .before .before .before .before .before .pre) refl (c .before .before .before .write .ensures) (c .n .given .0 .0) (c .n .given .1)
+returns : tie.Need-returns
+returns c = put-past (now (c .before .before .before .args .out)) (c .before .before .before .args .at) _ (c .if1 .taken)
 
-slice-aggregate-write : tie.Need-slice-aggregate-write
-slice-aggregate-write c = search needs
+sub-write : tie.Need-sub-write
+sub-write c = search needs
+
+part-write-start : tie.Need-part-write-start
+part-write-start c = search needs
+
+part-write-end : tie.Need-part-write-end
+part-write-end c = search needs
 
 write-requires : tie.Need-write-requires
 write-requires c κs = search needs
@@ -27,14 +25,8 @@ write-requires c κs = search needs
 enum-known-n : tie.Need-enum-known-n
 enum-known-n c = search needs
 
-array-share-prefix-frame : tie.Need-array-share-prefix-frame
-array-share-prefix-frame c = front (c .before .before) .inside
-
-slice-aggregate-put-bytes : tie.Need-slice-aggregate-put-bytes
-slice-aggregate-put-bytes c = front-count (front (c .before .before .before))
-
-put-bytes-requires : tie.Need-put-bytes-requires
-put-bytes-requires c κs = search needs
+add-result : tie.Need-add-result
+add-result c = omega (arith, part-counted (now (c .before .before .before .before .before .before .before .before .before .before .args .out)) (c .before .before .before .before .before .before .before .before .before .before .args .at) (c .before .before .before .before .before .before .before .if1 .left) (c .before .before .before .before .before .before .before .before .before .before .args .tag) (c .before .before .before .before .before .before .before .before .before .before .args .key) (c .before .before .before .before .before .before .before .before .before .before .args .given) (now (c .before .before .before .before .before .before .before .before .before .before .args .s)) (c .before .before .before .before .before .before .before .before .before .before .pre) (c .before .before .before .before .before .write .ensures) (c .before .n .given .0 .0) (c .before .n .given .1))
 
 enum-told : tie.Need-enum-told
 enum-told c = search needs
@@ -42,27 +34,28 @@ enum-told c = search needs
 same-length : tie.Need-same-length
 same-length c = search needs
 
-returns : tie.Need-returns
-returns c =
-    let a = c .before .before .before .before .before .before .before .before .before .before .before .before .before .args in
-    subst (λ (l : List _). Put (now (a .out)) (a .at) l (c .before .before .put-bytes .last .0) (c .before .before .put-bytes .result)) (front (c .before .before .before .before .before .before) .front) (c .before .before .put-bytes .ensures)
-
 returns-2 : tie.Need-returns-2
-returns-2 c =
-    let a = c .before .before .before .before .before .before .before .args in
-    absurd (never-refused (a .tag) (a .key) (a .given) (now (a .s)) (c .before .before .before .before .before .before .before .pre) refl (c .before .before .before .write .ensures) (c .enum-told .given .0 .0) (c .enum-told .given .1))
+returns-2 c = part-put (now (c .before .before .before .before .before .before .before .before .before .before .args .out)) (c .before .before .before .before .before .before .before .before .before .before .args .at) (c .before .before .before .before .before .before .before .if1 .left) (c .before .before .before .before .before .before .before .before .before .before .args .tag) (c .before .before .before .before .before .before .before .before .before .before .args .key) (c .before .before .before .before .before .before .before .before .before .before .args .given) (now (c .before .before .before .before .before .before .before .before .before .before .args .s)) (c .before .before .before .before .before .before .before .before .before .before .pre) (c .before .before .before .before .before .write .ensures) (c .before .n .given .0 .0) (c .before .n .given .1)
+
+same-length-2 : tie.Need-same-length-2
+same-length-2 c = search needs
+
+returns-3 : tie.Need-returns-3
+returns-3 c = part-kept (now (c .before .before .before .before .before .before .before .before .before .args .out)) (c .before .before .before .before .before .before .before .before .before .args .at) (c .before .before .before .before .before .before .if1 .left) (c .before .before .before .before .before .before .before .before .before .args .tag) (c .before .before .before .before .before .before .before .before .before .args .key) (c .before .before .before .before .before .before .before .before .before .args .given) (now (c .before .before .before .before .before .before .before .before .before .args .s)) (c .before .before .before .before .before .before .before .before .before .pre) (c .before .before .before .before .write .ensures) (c .enum-told .given .0 .0) (c .enum-told .given .1)
 
 pub put-message-spec : {M : Type 1} → statement M
 put-message-spec =
     tie.close
     (tie.spec
-    slice-aggregate-write
+    returns
+    sub-write
+    part-write-start
+    part-write-end
     write-requires
     enum-known-n
-    array-share-prefix-frame
-    slice-aggregate-put-bytes
-    put-bytes-requires
+    add-result
     enum-told
     same-length
-    returns
-    returns-2)
+    returns-2
+    same-length-2
+    returns-3)
