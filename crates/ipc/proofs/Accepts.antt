@@ -1,7 +1,7 @@
--- Frames are accepted exactly as the grammar has them.
+-- Frames are answered by the rows of document 01's table, and accepted exactly as the grammar has them.
 -- Assumes nothing.
 use Prim.Native.Nat.{ℕ, zero, suc, _+_, _-_, _*_, _≤_, _<_}
-use mathlib.Core.Path.{_≡_, refl, sym, ap, _∙_}
+use mathlib.Core.Path.{_≡_, refl, sym, ap, subst, _∙_}
 use mathlib.Core.Bool.{Bool, true, false, cond, _&&_, _||_}
 use mathlib.Core.Logic.{_⊎_, ⊎-elim}
 use mathlib.Core.List.{List, [], _∷_, _++_, append-nil}
@@ -9,7 +9,7 @@ use native.Mathlib.Omega.{arith}
 use native.Mathlib.Decide.{decLt}
 use borrow.Author.Tests.{eqb-true, leb-true}
 use lib.Dec.{eqb, leb}
-use lib.ListN.{length, take, drop, length-append, length-drop, take-append-drop}
+use lib.ListN.{length, take, drop, length-append, take-append-drop}
 use lib.Seq.{length-take-le, take-append-seam, drop-at}
 use Rattle.bencode.specs.declared.fault.Walk.{Walk}
 use Rattle.bencode.specs.declared.profile.Profile.{Profile}
@@ -20,15 +20,14 @@ use Rattle.bencode.specs.Depth.{largestDepth}
 use Rattle.bencode.specs.Value.{Value, integer, string, list, dictionary, encode}
 use Rattle.bencode.proofs.Grammar.{accepts-exactly as payload-accepts}
 use Rattle.ipc.specs.declared.header.Header.{Header}
-use Rattle.ipc.specs.declared.reading.Reading.{Reading}
 use Rattle.ipc.specs.declared.header.Sized.{Sized}
 use Rattle.ipc.specs.Answer.{Answer, refused, answerOf}
-use Rattle.ipc.specs.Header.{largestPayload, hexValue, headerIn, readHeader, sized}
-use Rattle.ipc.specs.Frame.{walked, payloadReading, lengthReading, bySize, byHeader, frameReading, readFrame}
+use Rattle.ipc.specs.Header.{largestPayload, protocolPayload, hexValue, headerIn, readHeader}
+use Rattle.ipc.specs.Frame.{payloadReading, frameReading, readFrame}
 use Rattle.ipc.specs.Meaning.{meaning}
-use Rattle.ipc.specs.Demands.{HexDigits, none, more, hexFrom, Framed, AnswersMeaning, AcceptsExactly}
+use Rattle.ipc.specs.Demands.{HexDigits, none, more, hexFrom, Framed, AnswersMeaning, AcceptsExactly, Headed, AnswerRow, framed, short-header, short-payload, no-digit, over-protocol, over-limit, payload-fault, AnswersByRow}
 use Rattle.ipc.proofs.HeaderLaws.{in-some, in-none}
-use Rattle.ipc.proofs.FrameLaws.{payload-dictionary, payload-list, payload-scalar, length-there, sized-small, sized-same, sized-fits, frame-sized}
+use Rattle.ipc.proofs.FrameLaws.{payload-fault as fault-payload, payload-dictionary, payload-list, payload-scalar, length-short, length-there, sized-fits, sized-over-limit, sized-over-protocol, frame-no-digit, frame-short, frame-sized}
 use Rattle.ipc.proofs.Means.{Good, items-begin, entries-begin, good-list, good-dictionary}
 use Rattle.ipc.proofs.Messages.{message-means}
 use Rattle.bencode.specs.Key.{isFaultCode}
@@ -80,22 +79,37 @@ header-before [] rest (suc k) i v e p = absurd (omega arith)
 header-before (c ∷ cs) rest zero i v e p = absurd (omega arith)
 header-before (c ∷ cs) rest (suc k) i v e (more h p) = in-some k i v c (cs ++ rest) h ∙ header-before cs rest k (i + 1) (16 * v + hexValue c) (omega arith) p
 
-header-digits : (k i v n : ℕ) (s : List ℕ) → headerIn k i v s ≡ Header.Length n → (hexFrom v (take k s) ≡ n) × (length (take k s) ≡ k) × HexDigits (take k s)
-unfolding headerIn hexFrom
-header-digits zero i v n s e = ((cc), refl, none)
-header-digits (suc k) i v n [] e = let z : _≡_ {A = ℕ} 0 1 = cc in absurd (omega arith)
-header-digits (suc k) i v n (c ∷ cs) e = digit (decLt (hexValue c) 16) (λ q. header-digits k (i + 1) (16 * v + hexValue c) n cs q)
+header-short : (ds : List ℕ) (k i v : ℕ) → length ds < k → HexDigits ds → headerIn k i v ds ≡ Header.Short
+unfolding headerIn
+header-short ds zero i v e p = absurd (omega arith)
+header-short [] (suc k) i v e p = refl
+header-short (c ∷ cs) (suc k) i v e (more h p) = in-some k i v c cs h ∙ header-short cs k (i + 1) (16 * v + hexValue c) (omega arith) p
+
+header-no-digit : (ds rest : List ℕ) (c k i v : ℕ) → length ds < k → HexDigits ds → 16 ≤ hexValue c → headerIn k i v (ds ++ (c ∷ rest)) ≡ Header.NoDigit (i + length ds)
+header-no-digit ds rest c zero i v e p h = absurd (omega arith)
+header-no-digit [] rest c (suc k) i v e p h = in-none k i v c rest h ∙ ap (λ (n : ℕ). Header.NoDigit n) (omega arith)
+header-no-digit (d ∷ ds) rest c (suc k) i v e (more g p) h =
+    in-some k i v d (ds ++ (c ∷ rest)) g ∙ header-no-digit ds rest c k (i + 1) (16 * v + hexValue d) (omega arith) p h ∙ ap (λ (n : ℕ). Header.NoDigit n) (omega arith)
+
+-- what the first k bytes are: hex digits; fewer of them, and no other byte; or a byte that is none
+data Digits (k : ℕ) (s : List ℕ) : Type 0 where
+  all : (ds rest : List ℕ) → s ≡ ds ++ rest → length ds ≡ k → HexDigits ds → Digits k s
+  fewer : HexDigits s → length s < k → Digits k s
+  other : (ds rest : List ℕ) (c : ℕ) → s ≡ ds ++ (c ∷ rest) → HexDigits ds → length ds < k → 16 ≤ hexValue c → Digits k s
+
+digits-after : (k c : ℕ) (cs : List ℕ) → hexValue c < 16 → Digits k cs → Digits (suc k) (c ∷ cs)
+digits-after k c cs h (all ds rest is n p) = all (c ∷ ds) rest (ap (λ (l : List ℕ). c ∷ l) is) (ap suc n) (more h p)
+digits-after k c cs h (fewer p n) = fewer (more h p) (omega arith)
+digits-after k c cs h (other ds rest b is p n g) = other (c ∷ ds) rest b (ap (λ (l : List ℕ). c ∷ l) is) (more h p) (omega arith) g
+
+digits-of : (k : ℕ) (s : List ℕ) → Digits k s
+digits-of zero s = all [] s refl refl none
+digits-of (suc k) [] = fewer none (omega arith)
+digits-of (suc k) (c ∷ cs) = go (decLt (hexValue c) 16) (digits-of k cs)
   where
-    digit : Dec (hexValue c < 16)
-        → (headerIn k (i + 1) (16 * v + hexValue c) cs ≡ Header.Length n → (hexFrom (16 * v + hexValue c) (take k cs) ≡ n) × (length (take k cs) ≡ k) × HexDigits (take k cs))
-        → (hexFrom v (take (suc k) (c ∷ cs)) ≡ n) × (length (take (suc k) (c ∷ cs)) ≡ suc k) × HexDigits (take (suc k) (c ∷ cs))
-    digit (yes h) rec =
-        let r = rec (sym (in-some k i v c cs h) ∙ e) in
-        (r .0, ap suc (r .1), more h (r .2))
-    digit (no g) rec =
-        let f : Header.NoDigit i ≡ Header.Length n = sym (in-none k i v c cs (omega arith)) ∙ e in
-        let z : _≡_ {A = ℕ} 0 1 = cc in
-        absurd (omega arith)
+    go : Dec (hexValue c < 16) → Digits k cs → Digits (suc k) (c ∷ cs)
+    go (yes h) d = digits-after k c cs h d
+    go (no h) d = other [] cs c refl none (omega arith) (omega arith)
 
 -- a fault's code in the loose profile
 loose-code : (c : ℕ) → isFaultCode Profile.Loose c ≡ true → (5 ≤ c) × (c ≤ 9)
@@ -106,84 +120,104 @@ loose-code c e = go (leb 5 c) refl (leb c 9) refl e
     go true p false q e = clash false e refl
     go false p u q e = clash false e refl
 
--- ---- frames
-module _ (s : List ℕ) (a : Answer) (judged : (a .code ≡ 0) ⊎ (20 ≤ a .code)) where
-  -- no other refusal is such an answer
-  refusal : (c at : ℕ) → 0 < c → c < 20 → refused c at ≡ a → ⊥
-  refusal c at l h e = let i : c ≡ a .code = ap (λ (x : Answer). x .code) e in ⊎-elim (λ (q : a .code ≡ 0). omega arith) (λ (q : 20 ≤ a .code). omega arith) judged
+-- a code between is neither 0 nor 20 or more
+other-code : {X : Type 0} (c : ℕ) → 0 < c → c < 20 → (c ≡ 0) ⊎ (20 ≤ c) → X
+other-code c l h judged = absurd (⊎-elim (λ (q : c ≡ 0). omega arith) (λ (q : 20 ≤ c). omega arith) judged)
 
-  -- an accepted frame is one of the grammar's
-  module _ (n : ℕ) (header : readHeader s ≡ Header.Length n) (small : n ≤ largestPayload) (there : 8 + n ≤ length s) where
-    parts : s ≡ take 8 s ++ (take n (drop 8 s) ++ drop n (drop 8 s))
-    parts = sym (take-append-drop 8 s) ∙ ap (λ (l : List ℕ). take 8 s ++ l) (sym (take-append-drop n (drop 8 s)))
-
-    framed : (v : Value) → Good v → part s 8 (8 + n) ≡ encode v → answerOf (payloadReading (part s 8 (8 + n))) ≡ a → Framed s a
+-- ---- each row has its answer
+module _ (s : List ℕ) where
+  module _ (n : ℕ) (after : List ℕ) (h : Headed s n after) where
+    headed-length : readHeader s ≡ Header.Length n
     unfolding readHeader
-    framed v h e q =
-        let r = header-digits 8 0 0 n s header in
-        let m : (8 + n) - 8 ≡ n = omega arith in
-        let t : take n (drop 8 s) ≡ encode v = ap (λ (k : ℕ). take k (drop 8 s)) (sym m) ∙ e in
-        let size : n ≡ length (encode v) = sym (length-take-le n (drop 8 s) (omega (arith, length-drop 8 s))) ∙ ap length t in
-        record {
-          header = take 8 s;
-          payload = v;
-          rest = drop n (drop 8 s);
-          is = parts ∙ ap (λ (l : List ℕ). take 8 s ++ (l ++ drop n (drop 8 s))) t;
-          eight = r .1;
-          hex = r .2;
-          number = r .0 ∙ size;
+    headed-length = ap readHeader (h .is) ∙ header-before (h .header) after 8 0 0 (h .eight) (h .hex) ∙ ap (λ (k : ℕ). Header.Length k) (h .number)
+
+    headed-size : length s ≡ 8 + length after
+    headed-size = ap length (h .is) ∙ length-append (h .header) after ∙ omega (arith, h .eight)
+
+  -- the payload that a header counts
+  headed-payload : (p after : List ℕ) → Headed s (length p) (p ++ after) → length p ≤ largestPayload → payloadReading p ≡ frameReading s
+  headed-payload p after h small =
+      let n = length p in
+      let size : length s ≡ 8 + (n + length after) = headed-size n (p ++ after) h ∙ omega (arith, length-append p after) in
+      let m : (8 + n) - 8 ≡ n = omega arith in
+      let rest : drop 8 s ≡ p ++ after = ap (drop 8) (h .is) ∙ drop-at (h .header) (p ++ after) 8 (h .eight) in
+      let payload : part s 8 (8 + n) ≡ p = ap (λ (k : ℕ). take k (drop 8 s)) m ∙ ap (take n) rest ∙ take-append-seam p after in
+      ap payloadReading (sym payload) ∙ length-there s n (omega arith) ∙ frame-sized s n (Sized.Length (record { 0 = n })) (headed-length n (p ++ after) h) (sized-fits n small)
+
+  row-answered : (a : Answer) → AnswerRow s a → a ≡ answerOf (frameReading s)
+  unfolding readHeader
+  row-answered a (framed f) =
+      let v = f .payload in
+      let h : Headed s (length (encode v)) (encode v ++ f .rest) = record { header = f .header; is = f .is; eight = f .eight; hex = f .hex; number = f .number } in
+      sym (f .means) ∙ sym (payload-means v (f .formed)) ∙ ap answerOf (headed-payload (encode v) (f .rest) h (f .small))
+  row-answered a (short-header p few) = ap answerOf (frame-short s (header-short s 8 0 0 few p))
+  row-answered a (short-payload n after h small few) =
+      let size = headed-size n after h in
+      ap answerOf (length-short s n (omega arith) ∙ frame-sized s n (Sized.Length (record { 0 = n })) (headed-length n after h) (sized-fits n small))
+  row-answered a (no-digit before after c is p few g) = ap answerOf (frame-no-digit s (length before) (ap readHeader is ∙ header-no-digit before after c 8 0 0 few p g ∙ ap (λ (n : ℕ). Header.NoDigit n) (omega arith)))
+  row-answered a (over-protocol n after h large) = ap answerOf (frame-sized s n Sized.OverProtocol (headed-length n after h) (sized-over-protocol n large))
+  row-answered a (over-limit n after h large small) = ap answerOf (frame-sized s n Sized.OverLimit (headed-length n after h) (sized-over-limit n large small))
+  row-answered a (payload-fault p after f h small e) = ap answerOf (fault-payload p f e ∙ headed-payload p after h small)
+
+  -- ---- all bytes have a row
+  payload-row : (p after : List ℕ) → Headed s (length p) (p ++ after) → length p ≤ largestPayload → (w : Walk) → payloadAt Profile.Loose p ≡ w → (a : Answer) × AnswerRow s a
+  payload-row p after h small (Walk.Fault f) e = (refused (f .code) (f .offset), payload-fault p after f h small e)
+  payload-row p after h small (Walk.End end) e =
+      let v = payload-accepts Profile.Loose p .0 (whole-end p end e) in
+      let size : length p ≡ length (encode (v .0)) = ap length (v .2) in (
+        meaning (8 + length (encode (v .0))) (v .0),
+        framed (record {
+          header = h .header;
+          payload = v .0;
+          rest = after;
+          is = h .is ∙ ap (λ (l : List ℕ). h .header ++ (l ++ after)) (v .2);
+          eight = h .eight;
+          hex = h .hex;
+          number = h .number ∙ size;
           small = omega arith;
-          formed = h;
-          means = sym (payload-means v h) ∙ ap (λ (l : List ℕ). answerOf (payloadReading l)) (sym e) ∙ q;
-        }
+          formed = v .1;
+          means = refl;
+        }),
+      )
 
-    walked-framed : (w : Walk) → payloadAt Profile.Loose (part s 8 (8 + n)) ≡ w → answerOf (walked (part s 8 (8 + n)) w) ≡ a → Framed s a
-    unfolding payloadReading
-    walked-framed (Walk.Fault f) e q = let b = loose-code (f .code) (faults-coded Profile.Loose (part s 8 (8 + n)) f e) in absurd (refusal (f .code) (f .offset) (omega arith) (omega arith) q)
-    walked-framed (Walk.End end) e q =
-        let v = payload-accepts Profile.Loose (part s 8 (8 + n)) .0 (whole-end (part s 8 (8 + n)) end e) in
-        framed (v .0) (v .1) (v .2) (rw e q)
-
-  sized-framed : (n : ℕ) → readHeader s ≡ Header.Length n → (z : Sized) → sized n ≡ z → answerOf (bySize s z) ≡ a → Framed s a
-  unfolding lengthReading payloadReading
-  sized-framed n header Sized.OverLimit e q = absurd (refusal 4 0 (omega arith) (omega arith) q)
-  sized-framed n header Sized.OverProtocol e q = absurd (refusal 3 0 (omega arith) (omega arith) q)
-  sized-framed n header (Sized.Length l) e q = go (leb (8 + l .0) (length s)) refl q
+  headed-row : (n : ℕ) (after : List ℕ) → Headed s n after → (a : Answer) × AnswerRow s a
+  headed-row n after h = go (decLt protocolPayload n) (decLt largestPayload n) (decLt (length after) n)
     where
-      same : l .0 ≡ n
-      same = sized-same n l e
+      go : Dec (protocolPayload < n) → Dec (largestPayload < n) → Dec (length after < n) → (a : Answer) × AnswerRow s a
+      go (yes large) d e = (refused 3 0, over-protocol n after h large)
+      go (no small) (yes large) e = (refused 4 0, over-limit n after h large (omega arith))
+      go (no _) (no small) (yes few) = (refused 1 0, short-payload n after h (omega arith) few)
+      go (no _) (no small) (no there) =
+          let size : length (take n after) ≡ n = length-take-le n after (omega arith) in
+          let parts : after ≡ take n after ++ drop n after = sym (take-append-drop n after) in
+          payload-row (take n after) (drop n after)
+          (record { header = h .header; is = h .is ∙ ap (λ (l : List ℕ). h .header ++ l) parts; eight = h .eight; hex = h .hex; number = h .number ∙ sym size })
+          (omega arith) (payloadAt Profile.Loose (take n after)) refl
 
-      go : (t : Bool) → leb (8 + l .0) (length s) ≡ t → answerOf (cond t (payloadReading (part s 8 (8 + l .0))) Reading.Incomplete) ≡ a → Framed s a
-      go false r q = absurd (refusal 1 0 (omega arith) (omega arith) q)
-      go true r q =
-          walked-framed (l .0) (header ∙ ap (λ (k : ℕ). Header.Length k) (sym same)) (sized-small n l e) (leb-true (8 + l .0) (length s) r) (payloadAt Profile.Loose (part s 8 (8 + l .0))) refl q
+  row-of : Digits 8 s → (a : Answer) × AnswerRow s a
+  row-of (all ds after is n p) = headed-row (hexFrom 0 ds) after (record { header = ds; is = is; eight = n; hex = p; number = refl })
+  row-of (fewer p n) = (refused 1 0, short-header p n)
+  row-of (other ds after c is p n g) = (refused 2 (length ds), no-digit ds after c is p n g)
 
-  accepted-framed : readFrame s ≡ a → Framed s a
-  unfolding readFrame frameReading
-  accepted-framed e = go (readHeader s) refl e
-    where
-      go : (h : Header) → readHeader s ≡ h → answerOf (byHeader s h) ≡ a → Framed s a
-      go (Header.NoDigit at) q e = absurd (refusal 2 at (omega arith) (omega arith) e)
-      go Header.Short q e = absurd (refusal 1 0 (omega arith) (omega arith) e)
-      go (Header.Length n) q e = sized-framed n q (sized n) refl e
-
--- a frame of the grammar is accepted
-framed-accepted : (s : List ℕ) (a : Answer) → Framed s a → readFrame s ≡ a
-unfolding readHeader readFrame
-framed-accepted s a f =
-    let v = f .payload in
-    let n = length (encode v) in
-    let header : readHeader s ≡ Header.Length n = ap readHeader (f .is) ∙ header-before (f .header) (encode v ++ f .rest) 8 0 0 (f .eight) (f .hex) ∙ ap (λ (k : ℕ). Header.Length k) (f .number) in
-    let size : sized n ≡ Sized.Length (record { 0 = n }) = sized-fits n (f .small) in
-    let total : length s ≡ 8 + (n + length (f .rest)) = ap length (f .is) ∙ length-append (f .header) (encode v ++ f .rest) ∙ omega (arith, f .eight, length-append (encode v) (f .rest)) in
-    let after : drop 8 s ≡ encode v ++ f .rest = ap (drop 8) (f .is) ∙ drop-at (f .header) (encode v ++ f .rest) 8 (f .eight) in
-    let m : (8 + n) - 8 ≡ n = omega arith in
-    let payload : part s 8 (8 + n) ≡ encode v = ap (λ (k : ℕ). take k (drop 8 s)) m ∙ ap (take n) after ∙ take-append-seam (encode v) (f .rest) in
-    ap answerOf (sym (frame-sized s n (Sized.Length (record { 0 = n })) header size) ∙ sym (length-there s n (omega arith)) ∙ ap payloadReading payload)
-    ∙ payload-means v (f .formed) ∙ f .means
-
-pub accepts-exactly : AcceptsExactly
-accepts-exactly s a judged = (accepted-framed s a judged, framed-accepted s a)
+-- ---- the statements
+pub answers-by-row : AnswersByRow
+unfolding readFrame
+answers-by-row s a =
+    let r = row-of s (digits-of 8 s) in
+    (λ e. subst (λ (b : Answer). AnswerRow s b) (row-answered s (r .0) (r .1) ∙ e) (r .1), λ row. sym (row-answered s a row))
 
 pub answers-meaning : AnswersMeaning
-answers-meaning s a f = framed-accepted s a f
+answers-meaning s a f = answers-by-row s a .1 (framed f)
+
+-- no other row has such an answer
+accepted-framed : (s : List ℕ) (a : Answer) → (a .code ≡ 0) ⊎ (20 ≤ a .code) → AnswerRow s a → Framed s a
+accepted-framed s a judged (framed f) = f
+accepted-framed s a judged (short-header p few) = other-code 1 (omega arith) (omega arith) judged
+accepted-framed s a judged (short-payload n after h small few) = other-code 1 (omega arith) (omega arith) judged
+accepted-framed s a judged (no-digit before after c is p few g) = other-code 2 (omega arith) (omega arith) judged
+accepted-framed s a judged (over-protocol n after h large) = other-code 3 (omega arith) (omega arith) judged
+accepted-framed s a judged (over-limit n after h large small) = other-code 4 (omega arith) (omega arith) judged
+accepted-framed s a judged (payload-fault p after f h small e) = let b = loose-code (f .code) (faults-coded Profile.Loose p f e) in other-code (f .code) (omega arith) (omega arith) judged
+
+pub accepts-exactly : AcceptsExactly
+accepts-exactly s a judged = (λ e. accepted-framed s a judged (answers-by-row s a .0 e), answers-meaning s a)

@@ -1,11 +1,11 @@
 -- Laws of frames: one for each way through the reader.
 -- Assumes nothing.
 use Prim.Native.Nat.{ℕ, _+_, _≤_, _<_}
-use mathlib.Core.Path.{_≡_, refl, sym, ap}
+use mathlib.Core.Path.{_≡_, refl, ap}
 use mathlib.Core.Bool.{Bool, true, false, cond}
 use mathlib.Core.List.{List}
 use native.Mathlib.Omega.{arith}
-use borrow.Author.Tests.{eq-eqb, ne-eqb, le-leb, lt-leb, le-ltb, ltb-false}
+use borrow.Author.Tests.{eq-eqb, ne-eqb, le-leb, lt-leb, lt-ltb, le-ltb, ltb-false}
 use lib.Dec.{ltb}
 use lib.ListN.{length}
 use Rattle.bencode.specs.declared.fault.Fault.{Fault}
@@ -63,19 +63,17 @@ sized-small n l e = go (ltb protocolPayload n) (ltb largestPayload n) refl e
         let is : record { 0 = n } ≡ l = cc in
         omega (arith, ap (λ (k : PayloadLength). k .0) is)
 
--- and is the number itself
-pub sized-same : (n : ℕ) (l : PayloadLength) → sized n ≡ Sized.Length l → l .0 ≡ n
-unfolding sized
-sized-same n l e = go (ltb protocolPayload n) (ltb largestPayload n) e
-  where
-    go : (t u : Bool) → cond t Sized.OverProtocol (cond u Sized.OverLimit (Sized.Length (record { 0 = n }))) ≡ Sized.Length l → l .0 ≡ n
-    go true u e = let z : _≡_ {A = ℕ} 0 1 = cc in absurd (omega arith)
-    go false true e = let z : _≡_ {A = ℕ} 0 1 = cc in absurd (omega arith)
-    go false false e = let is : record { 0 = n } ≡ l = cc in sym (ap (λ (k : PayloadLength). k .0) is)
-
 pub sized-fits : (n : ℕ) → n ≤ largestPayload → sized n ≡ Sized.Length (record { 0 = n })
 unfolding sized
 sized-fits n h = rw (le-ltb protocolPayload n (omega arith), le-ltb largestPayload n h) refl
+
+pub sized-over-limit : (n : ℕ) → largestPayload < n → n ≤ protocolPayload → sized n ≡ Sized.OverLimit
+unfolding sized
+sized-over-limit n h g = rw (le-ltb protocolPayload n g, lt-ltb largestPayload n h) refl
+
+pub sized-over-protocol : (n : ℕ) → protocolPayload < n → sized n ≡ Sized.OverProtocol
+unfolding sized
+sized-over-protocol n h = rw (lt-ltb protocolPayload n h) refl
 
 module _ (s : List ℕ) where
   pub frame-no-digit : (at : ℕ) → readHeader s ≡ Header.NoDigit at → Reading.NoDigit at ≡ frameReading s

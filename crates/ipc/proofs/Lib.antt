@@ -20,3 +20,4 @@ pub mod Inverts
 pub mod WritesBack
 pub mod IdLists
 pub mod ReadsBack
+pub mod Worthless

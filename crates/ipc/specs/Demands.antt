@@ -1,4 +1,5 @@
 -- What is proved of frames as a whole. Each statement is a type; its proof stands in proofs/ under the same name in lower case.
+-- A name with For is the statement over any build, so that a wrong one can be refuted by it (Worthless).
 -- Assumes nothing.
 use Prim.Native.Nat.{ℕ, _+_, _*_, _≤_, _<_}
 use mathlib.Core.Path.{_≡_}
@@ -6,16 +7,19 @@ use mathlib.Core.Logic.{_↔_, _⊎_}
 use mathlib.Core.Bool.{true}
 use mathlib.Core.List.{List, [], _∷_, _++_}
 use lib.ListN.{length, take}
+use Rattle.bencode.specs.declared.fault.Fault.{Fault}
+use Rattle.bencode.specs.declared.fault.Walk.{Walk}
 use Rattle.bencode.specs.declared.profile.Profile.{Profile}
 use Rattle.bencode.specs.Bytes.{part as bytesFrom}
 use Rattle.bencode.specs.Depth.{largestDepth}
 use Rattle.bencode.specs.Integer.{InRange}
 use Rattle.bencode.specs.Value.{Value, list, Values, encode, WellFormed}
+use Rattle.bencode.specs.Walk.{payloadAt}
 use Rattle.ipc.specs.declared.keys.Class.{Class}
 use Rattle.ipc.specs.declared.write.Given.{Given}
 use Rattle.ipc.specs.declared.write.Written.{Written}
-use Rattle.ipc.specs.Answer.{Answer, Content, nothing, integer, text, part, versions, message, accepted, acceptedHandshake}
-use Rattle.ipc.specs.Header.{headerLength, largestPayload, hexValue}
+use Rattle.ipc.specs.Answer.{Answer, Content, nothing, integer, text, part, versions, message, refused, accepted, acceptedHandshake}
+use Rattle.ipc.specs.Header.{headerLength, largestPayload, protocolPayload, hexValue}
 use Rattle.ipc.specs.Frame.{readFrame}
 use Rattle.ipc.specs.Hex.{upperHeader}
 use Rattle.ipc.specs.Keys.{classOf, isWritten}
@@ -46,13 +50,53 @@ pub record Framed (s : List ℕ) (a : Answer) : Type 0 where
   pub formed : WellFormed Profile.Loose largestDepth payload
   pub means : meaning (headerLength + length (encode payload)) payload ≡ a
 
+-- ---- reading
 -- a frame of the grammar has the answer that it means, be it accepted or 20, 21 or 22
-abbrev pub AnswersMeaning : Type 0
-AnswersMeaning = (s : List ℕ) (a : Answer) → Framed s a → readFrame s ≡ a
+abbrev pub AnswersMeaningFor : (List ℕ → Answer) → Type 0
+AnswersMeaningFor read = (s : List ℕ) (a : Answer) → Framed s a → read s ≡ a
 
--- what is accepted, and what is refused by 20 to 22, is what the grammar says: with the same values, and nothing else
+abbrev pub AnswersMeaning : Type 0
+AnswersMeaning = AnswersMeaningFor readFrame
+
+-- demand 2: what is accepted, and what is refused by 20 to 22, is what the grammar says: with the same values, and nothing else
+abbrev pub AcceptsExactlyFor : (List ℕ → Answer) → Type 0
+AcceptsExactlyFor read = (s : List ℕ) (a : Answer) → (a .code ≡ 0) ⊎ (20 ≤ a .code) → (read s ≡ a) ↔ Framed s a
+
 abbrev pub AcceptsExactly : Type 0
-AcceptsExactly = (s : List ℕ) (a : Answer) → (a .code ≡ 0) ⊎ (20 ≤ a .code) → (readFrame s ≡ a) ↔ Framed s a
+AcceptsExactly = AcceptsExactlyFor readFrame
+
+-- bytes that start with 8 hex digits for a number, and the bytes after them
+pub record Headed (s : List ℕ) (n : ℕ) (after : List ℕ) : Type 0 where
+  pub header : List ℕ
+  pub is : s ≡ header ++ after
+  pub eight : length header ≡ headerLength
+  pub hex : HexDigits header
+  pub number : hexFrom 0 header ≡ n
+
+-- the rows of document 01's table 'What the reader says': when bytes have an answer
+pub data AnswerRow (s : List ℕ) : Answer → Type 0 where
+  -- 0, and 20 to 22: a frame of the grammar
+  framed : {a : Answer} → Framed s a → AnswerRow s a
+  -- 1: no header fault, but the header or the payload is not all there
+  short-header : HexDigits s → length s < headerLength → AnswerRow s (refused 1 0)
+  short-payload : (n : ℕ) (after : List ℕ) → Headed s n after → n ≤ largestPayload → length after < n → AnswerRow s (refused 1 0)
+  -- 2: a header byte is not a hex digit; the first such one
+  no-digit : (before after : List ℕ) (c : ℕ) → s ≡ before ++ (c ∷ after) → HexDigits before → length before < headerLength → 16 ≤ hexValue c
+      → AnswerRow s (refused 2 (length before))
+  -- 3: over the protocol's limit
+  over-protocol : (n : ℕ) (after : List ℕ) → Headed s n after → protocolPayload < n → AnswerRow s (refused 3 0)
+  -- 4: over the library's
+  over-limit : (n : ℕ) (after : List ℕ) → Headed s n after → largestPayload < n → n ≤ protocolPayload → AnswerRow s (refused 4 0)
+  -- 5 to 9: a fault of the payload
+  payload-fault : (payload after : List ℕ) (f : Fault) → Headed s (length payload) (payload ++ after) → length payload ≤ largestPayload
+      → payloadAt Profile.Loose payload ≡ Walk.Fault f → AnswerRow s (refused (f .code) (f .offset))
+
+-- demand 1: each number is given when its row holds and never otherwise
+abbrev pub AnswersByRowFor : (List ℕ → Answer) → Type 0
+AnswersByRowFor read = (s : List ℕ) (a : Answer) → (read s ≡ a) ↔ AnswerRow s a
+
+abbrev pub AnswersByRow : Type 0
+AnswersByRow = AnswersByRowFor readFrame
 
 -- ---- writing
 -- bytes that are the encoding of a list of torrent IDs
@@ -89,10 +133,22 @@ Named class frame Given.Nothing s c = c ≡ nothing
 Named class frame (Given.Integer z) s c = c ≡ integer z
 Named class frame Given.Bytes s c = (at : ℕ) × (c ≡ bytesNamed class at (length s)) × (bytesFrom frame at (at + length s) ≡ s)
 
--- each frame written reads back as its record, whatever follows it
+-- a writer: what it answers to a key, a value, the bytes beside it and a tag, in a room, and the frame that it leaves
+pub record Writer : Type 0 where
+  pub answer : ℕ → Given → List ℕ → ℕ → ℕ → Written
+  pub frame : ℕ → Given → List ℕ → ℕ → List ℕ
+
+-- ours
+abbrev pub writer : Writer
+writer = record { answer = writeAnswer; frame = λ key given s tag. frameOf (payloadOf key given s tag) }
+
+-- demand 2: each frame written reads back as its record, whatever follows it
+abbrev pub ReadsBackFor : Writer → Type 0
+ReadsBackFor w = (key tag room n : ℕ) (given : Given) (s rest : List ℕ) → GivenFits given → w .answer key given s tag room ≡ Written.Count n
+    → (c : Content) × (readFrame (w .frame key given s tag ++ rest) ≡ accepted n key tag c) × Named (classOf key) (w .frame key given s tag) given s c
+
 abbrev pub ReadsBack : Type 0
-ReadsBack = (key tag room n : ℕ) (given : Given) (s rest : List ℕ) → GivenFits given → writeAnswer key given s tag room ≡ Written.Count n
-    → (c : Content) × (readFrame (frameOf (payloadOf key given s tag) ++ rest) ≡ accepted n key tag c) × Named (classOf key) (frameOf (payloadOf key given s tag)) given s c
+ReadsBack = ReadsBackFor writer
 
 -- the same of the buffer that was lent
 abbrev pub BufferReadsBack : Type 0
@@ -101,8 +157,11 @@ BufferReadsBack = (key tag n : ℕ) (given : Given) (s before after : List ℕ) 
     → (c : Content) × (readFrame after ≡ accepted n key tag c) × Named (classOf key) (frameOf (payloadOf key given s tag)) given s c
 
 -- each handshake written reads back as its range
+abbrev pub HandshakeReadsBackFor : (ℕ → ℕ → ℕ → Written) → Type 0
+HandshakeReadsBackFor answer = (low high room n : ℕ) (rest : List ℕ) → answer low high room ≡ Written.Count n → readFrame (frameOf (handshakePayload low high) ++ rest) ≡ acceptedHandshake n low high
+
 abbrev pub HandshakeReadsBack : Type 0
-HandshakeReadsBack = (low high room n : ℕ) (rest : List ℕ) → handshakeWritten low high room ≡ Written.Count n → readFrame (frameOf (handshakePayload low high) ++ rest) ≡ acceptedHandshake n low high
+HandshakeReadsBack = HandshakeReadsBackFor handshakeWritten
 
 -- the value to hand in for what a reader named, and the bytes of it
 abbrev pub givenOf : Content → Given
@@ -119,8 +178,11 @@ bytesOf f (text at n) = bytesFrom f at (at + n)
 bytesOf f (part at n) = bytesFrom f at (at + n)
 bytesOf f (versions low high) = []
 
--- an accepted frame of a key that is written, unless its value is ignored, is written again, given room, as the same bytes but for the case of hex letters
+-- demand 2: an accepted frame of a key that is written, unless its value is ignored, is written again, given room, as the same bytes but for the case of hex letters
+abbrev pub WritesBackFor : Writer → Type 0
+WritesBackFor w = (f : List ℕ) (a : Answer) (room : ℕ) → readFrame f ≡ a → a .code ≡ 0 → a .kind ≡ message → isWritten (a .key) ≡ true → (classOf (a .key) ≡ Class.Ignored → ⊥) → a .consumed ≤ room
+    → (w .answer (a .key) (givenOf (a .value)) (bytesOf f (a .value)) (a .tag) room ≡ Written.Count (a .consumed))
+    × (w .frame (a .key) (givenOf (a .value)) (bytesOf f (a .value)) (a .tag) ≡ upperHeader (take (a .consumed) f))
+
 abbrev pub WritesBack : Type 0
-WritesBack = (f : List ℕ) (a : Answer) (room : ℕ) → readFrame f ≡ a → a .code ≡ 0 → a .kind ≡ message → isWritten (a .key) ≡ true → (classOf (a .key) ≡ Class.Ignored → ⊥) → a .consumed ≤ room
-    → (writeAnswer (a .key) (givenOf (a .value)) (bytesOf f (a .value)) (a .tag) room ≡ Written.Count (a .consumed))
-    × (frameOf (payloadOf (a .key) (givenOf (a .value)) (bytesOf f (a .value)) (a .tag)) ≡ upperHeader (take (a .consumed) f))
+WritesBack = WritesBackFor writer

@@ -13,3 +13,4 @@ pub mod Greeting
 pub mod Meaning
 pub mod Tries
 pub mod Demands
+pub mod Worthless
