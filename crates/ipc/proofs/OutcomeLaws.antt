@@ -17,6 +17,7 @@ use Rattle.ipc.specs.Header.{headerLength, largestPayload}
 use Rattle.ipc.specs.Hex.{hexHeader}
 use Rattle.ipc.specs.Keys.{keyText, classOf}
 use Rattle.ipc.specs.Write.{encodeGiven, encodeTag, payloadOf, codeOf, countOf, frameOf, fitted, lengthFault, Outcome}
+use Rattle.ipc.specs.Demands.{RefusalKeeps}
 use Rattle.ipc.proofs.HexLaws.{header-length}
 
 -- ---- the frame and its length
@@ -54,6 +55,10 @@ fitted-count p room small fits = rw (le-leb (length p) largestPayload small, fra
 -- a refusal leaves the buffer as it was
 pub outcome-refused : (answer : Written) (payload before : List ℕ) (code : ℕ) → answer ≡ Written.Refused code → Outcome answer payload before (Written.Refused code) before
 outcome-refused answer payload before code e = record { answered = sym e; code = ap codeOf (sym e); count = ap countOf (sym e); buffer = refl }
+
+pub refusal-keeps : RefusalKeeps
+refusal-keeps answer (Written.Count n) payload before after o h = absurd (h refl)
+refusal-keeps answer (Written.Refused c) payload before after o h = (refl, o .buffer)
 
 -- the same outcome of an answer that is equal
 pub outcome-same : {other answer r : Written} {payload before after : List ℕ} → answer ≡ other → Outcome other payload before r after → Outcome answer payload before r after

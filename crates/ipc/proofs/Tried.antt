@@ -1,7 +1,9 @@
--- The frames of the proved set are answered as the document has it: antt computes them.
+-- The frames of the proved set are answered as the document has it, and frames are written so: antt computes them.
 -- Assumes nothing.
 use mathlib.Core.Path.{refl}
-use Rattle.bencode.specs.Numeral.{digits, numeralAt}
+use mathlib.Core.List.{flatten}
+use Rattle.bencode.specs.Numeral.{digits, numeralAt, decimal, decimalBefore}
+use Rattle.bencode.specs.Value.{encode}
 use Rattle.bencode.specs.String.{stringAt}
 use Rattle.bencode.specs.Integer.{integerAt, integerFrom}
 use Rattle.bencode.specs.Bytes.{same, less}
@@ -14,14 +16,21 @@ use Rattle.bencode.specs.Walk.{listFrom, dictionaryFrom, valueAt, payloadAt}
 use Rattle.ipc.specs.Ascii.{ascii}
 use Rattle.ipc.specs.Header.{hexValue, headerIn, readHeader, sized}
 use Rattle.ipc.specs.Ids.{tagOf, torrentIdOf}
-use Rattle.ipc.specs.Keys.{listed, numberFrom, keyNumber, classOf}
+use Rattle.ipc.specs.Keys.{listed, numberFrom, keyNumber, keyText, classOf}
 use Rattle.bencode.specs.Entry.{entryAt}
 use Rattle.ipc.specs.Format.{idEnd, torrentEnd, itemEnd, listPart, formatted}
 use Rattle.ipc.specs.Message.{tailAt, messageReading}
 use Rattle.ipc.specs.Handshake.{rangeOf, integerOf, versionsAt, dictionaryVersions, handshakeReading}
 use Rattle.ipc.specs.Frame.{payloadReading, lengthReading, frameReading, readFrame}
-use Rattle.ipc.specs.Tries.{tries, FramesTried}
+use Rattle.ipc.specs.Greeting.{handshakePayload}
+use Rattle.ipc.specs.Hex.{hexDigit, hexIn, hexHeader}
+use Rattle.ipc.specs.Write.{encodeGiven, encodeTag, payloadOf, frameOf}
+use Rattle.ipc.specs.Tries.{tries, FramesTried, FramesWritten}
 
 pub frames-tried : FramesTried
 unfolding tries frameReading skipFrom itemAt readFrame lengthReading payloadReading ascii hexValue headerIn readHeader sized tagOf torrentIdOf listed numberFrom keyNumber classOf entryAt idEnd torrentEnd itemEnd listPart formatted tailAt messageReading rangeOf integerOf versionsAt dictionaryVersions handshakeReading payloadAt valueAt scalarAt integerAt integerFrom numeralAt digits stringAt listFrom dictionaryFrom repeat keyFault isUsed isAbove same less
 frames-tried = refl
+
+pub frames-written : FramesWritten
+unfolding frameOf payloadOf flatten encodeGiven encodeTag keyText classOf listed handshakePayload hexHeader hexIn hexDigit ascii encode decimal decimalBefore
+frames-written = (refl, refl, refl)

@@ -24,7 +24,7 @@ use Rattle.ipc.specs.Frame.{readFrame}
 use Rattle.ipc.specs.Hex.{upperHeader}
 use Rattle.ipc.specs.Keys.{classOf, isWritten}
 use Rattle.ipc.specs.Meaning.{isId, every, meaning}
-use Rattle.ipc.specs.Write.{isIdList, payloadOf, frameOf, writeAnswer, Outcome}
+use Rattle.ipc.specs.Write.{codeOf, countOf, isIdList, payloadOf, frameOf, writeAnswer, Outcome}
 use Rattle.ipc.specs.Greeting.{handshakePayload, handshakeWritten}
 
 -- bytes that are hex digits of either case
@@ -132,6 +132,10 @@ abbrev pub Named : Class → List ℕ → Given → List ℕ → Content → Typ
 Named class frame Given.Nothing s c = c ≡ nothing
 Named class frame (Given.Integer z) s c = c ≡ integer z
 Named class frame Given.Bytes s c = (at : ℕ) × (c ≡ bytesNamed class at (length s)) × (bytesFrom frame at (at + length s) ≡ s)
+
+-- demand 1: a refusal has count 0 and leaves the lent buffer as it was
+abbrev pub RefusalKeeps : Type 0
+RefusalKeeps = (answer r : Written) (payload before after : List ℕ) → Outcome answer payload before r after → (codeOf r ≡ 0 → ⊥) → (countOf r ≡ 0) × (after ≡ before)
 
 -- a writer: what it answers to a key, a value, the bytes beside it and a tag, in a room, and the frame that it leaves
 pub record Writer : Type 0 where

@@ -1,12 +1,15 @@
--- Document 01's frames to try that are marked P, in one table with a single statement.
+-- Document 01's frames to try that are marked P, in one table with a single statement, and three frames as they are written.
 -- Assumes nothing.
 use Prim.Native.String.{String}
 use lib.IntN.{pos}
 use mathlib.Core.Path.{_≡_}
 use mathlib.Core.List.{List, [], _∷_, map}
+use Rattle.ipc.specs.declared.write.Given.{Given}
 use Rattle.ipc.specs.Answer.{Answer, integer, part, refused, accepted, acceptedHandshake, offFormat}
 use Rattle.ipc.specs.Ascii.{ascii}
 use Rattle.ipc.specs.Frame.{readFrame}
+use Rattle.ipc.specs.Greeting.{handshakePayload}
+use Rattle.ipc.specs.Write.{payloadOf, frameOf}
 
 -- a frame and its answer
 pub record Try : Type 0 where
@@ -36,3 +39,9 @@ tries =
 -- the statement of the proved set: each frame has its answer
 abbrev pub FramesTried : Type 0
 FramesTried = map (λ t. readFrame (ascii (t .frame))) tries ≡ map (λ t. t .answer) tries
+
+-- frames as they are written: the length in upper case, `0:` for an ignored value and no tag for 0; a tag; a handshake with `min` before `max`
+abbrev pub FramesWritten : Type 0
+FramesWritten = (frameOf (payloadOf 11 Given.Nothing [] 0) ≡ ascii "0000000Al4:noop0:e")
+    × (frameOf (payloadOf 16 Given.Bytes (ascii "li8ee") 15) ≡ ascii "00000012l5:startli8eei15ee")
+    × (frameOf (handshakePayload 1 2) ≡ ascii "0000001Dd7:versiond3:mini1e3:maxi2eee")
