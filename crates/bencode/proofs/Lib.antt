@@ -20,9 +20,11 @@ pub mod ScalarReads
 pub mod Complete
 pub mod Unique
 pub mod Lookups
+pub mod FieldLaws
 pub mod Grammar
 pub mod Levels
 pub mod FaultCodes
+pub mod JudgeLaws
 pub mod FirstBytes
 pub mod KeyRule
 pub mod PutLaws

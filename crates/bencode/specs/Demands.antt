@@ -9,6 +9,7 @@ use lib.ListN.{length}
 use Rattle.bencode.specs.declared.entry.Entry.{Entry}
 use Rattle.bencode.specs.declared.fault.Fault.{Fault}
 use Rattle.bencode.specs.declared.fault.Walk.{Walk}
+use Rattle.bencode.specs.declared.field.Field.{Field}
 use Rattle.bencode.specs.declared.integer.Number.{Number}
 use Rattle.bencode.specs.declared.item.Item.{Item}
 use Rattle.bencode.specs.declared.profile.Profile.{Profile}
@@ -22,7 +23,8 @@ use Rattle.bencode.specs.Walk.{payloadAt}
 use Rattle.bencode.specs.Skip.{skipValue, skipRest}
 use Rattle.bencode.specs.Entry.{entryAt}
 use Rattle.bencode.specs.Item.{itemAt}
-use Rattle.bencode.specs.Value.{Value, integer, string, list, dictionary, Values, Entries, encode, encodeAll, encodeEntries, All, AllEntries, WellFormed, Found, found, missing, lookup, lookupAt}
+use Rattle.bencode.specs.Field.{fieldAt, fieldOf}
+use Rattle.bencode.specs.Value.{Value, integer, string, list, dictionary, Values, Entries, encodeString, encode, encodeAll, encodeEntries, All, AllEntries, WellFormed, Found, found, missing, lookup, lookupAt}
 
 -- demand 2, for payloads: the walk accepts exactly the encodings of well-formed values
 abbrev pub AcceptsExactly : Type 0
@@ -96,3 +98,26 @@ Located p levels s end missing Entry.Missing = Unit {0}
 -- a key is found in a dictionary exactly where its value stands
 abbrev pub FindsEntry : Type 0
 FindsEntry = (p : Profile) (levels : ℕ) (es : Entries) (keys : List (List ℕ)) (s : List ℕ) (at end : ℕ) (key : List ℕ) → AllEntries p (WellFormed p levels) keys es → Begins s at (encodeEntries es ++ (letterE ∷ [])) end → (entryAt s key at ≡ lookupAt key es at) × Located p levels s end (lookup key es) (entryAt s key at)
+
+-- what a field says of a value whose encoding stands at an offset: an integer, and where it ends; where a string's text is,
+-- which is the end of its encoding; where a list's items or a dictionary's entries stand, each well formed
+abbrev pub Shows : Profile → List ℕ → ℕ → Value → Field → Type 0
+Shows p s at (integer z) f = f ≡ Field.Integer z (at + length (encode (integer z)))
+Shows p s at (string text) f = (f ≡ Field.Text (at + length (encodeString text) - length text) (at + length (encodeString text))) × (part s (at + length (encodeString text) - length text) (at + length (encodeString text)) ≡ text)
+Shows p s at (list vs) f = (f ≡ Field.List (at + 1)) × (levels : ℕ) × All (WellFormed p levels) vs × Begins s (at + 1) (encodeAll vs ++ (letterE ∷ [])) (at + length (encode (list vs)))
+Shows p s at (dictionary es) f = (f ≡ Field.Dictionary (at + 1)) × (levels : ℕ) × AllEntries p (WellFormed p levels) [] es × Begins s (at + 1) (encodeEntries es ++ (letterE ∷ [])) (at + length (encode (dictionary es)))
+
+abbrev pub ShowsValue : Type 0
+ShowsValue = (p : Profile) (levels : ℕ) (v : Value) (s : List ℕ) (at end : ℕ) → WellFormed p levels v → Begins s at (encode v) end → Shows p s at v (fieldAt s at)
+
+-- what a field says of a key that was looked up in a dictionary that ends at `end`: the value at its offset, with the rest of
+-- the dictionary after it; or that there is none
+abbrev pub ShowsFound : Profile → List ℕ → ℕ → Found → Entry → Field → Type 0
+ShowsFound p s end (found v) (Entry.At at) f = Shows p s at v f × (skipRest s (at + length (encode v)) ≡ end)
+ShowsFound p s end (found v) Entry.Missing f = ⊥
+ShowsFound p s end missing (Entry.At at) f = ⊥
+ShowsFound p s end missing Entry.Missing f = f ≡ Field.Missing
+
+-- the field of a key shows what the look-up finds
+abbrev pub FindsField : Type 0
+FindsField = (p : Profile) (levels : ℕ) (es : Entries) (s : List ℕ) (at end : ℕ) (key : List ℕ) → AllEntries p (WellFormed p levels) [] es → Begins s at (encodeEntries es ++ (letterE ∷ [])) end → ShowsFound p s end (lookup key es) (lookupAt key es at) (fieldOf s key at)

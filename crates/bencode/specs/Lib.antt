@@ -14,4 +14,6 @@ pub mod KeySearch
 pub mod Item
 pub mod Put
 pub mod Value
+pub mod Field
+pub mod Judge
 pub mod Demands

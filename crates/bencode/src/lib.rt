@@ -6,6 +6,7 @@ mod decimal;
 pub mod depth;
 pub mod entry;
 pub mod fault;
+pub mod field;
 pub mod integer;
 pub mod item;
 mod key;
