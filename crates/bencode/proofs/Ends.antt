@@ -11,6 +11,8 @@ use lib.Dec.{eqb, leb, ltb}
 use lib.IntN.{ℤ}
 use lib.Signed.{mag}
 use lib.ListN.{length, drop}
+use mir.Syntax.{w64}
+use mir.Val.{SFits}
 use Rattle.bencode.specs.declared.numeral.Decimal.{Decimal}
 use Rattle.bencode.specs.declared.string.Text.{Text}
 use Rattle.bencode.specs.declared.integer.Number.{Number}
@@ -163,3 +165,11 @@ scalar-ends s at end e = go (eqb (byteAt s at) 105) refl (integerAt s at) refl (
         let i : k ≡ end = cc in
         let w = string-whole-inv s at start k r in
         record { past = omega arith; no-e = omega arith; no-list = omega arith; no-dictionary = omega arith }
+
+-- an integer that is read fits 64 bits
+pub integer-fits : (s : List ℕ) (at : ℕ) (z : ℤ) (end : ℕ) → integerAt s at ≡ Number.Integer z end → SFits w64 z
+integer-fits s at z end e = go (integer-inv s at z end e)
+  where
+    go : SignedInteger s at z end → SFits w64 z
+    go (plus b w) = record { sfits = w .fits }
+    go (minus b c d w) = record { sfits = w .fits }

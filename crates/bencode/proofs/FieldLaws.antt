@@ -2,13 +2,10 @@
 -- Assumes nothing.
 use Prim.Native.Nat.{ℕ, zero, suc, _+_}
 use mathlib.Core.Path.{_≡_, refl, ap, subst, _∙_}
-use mathlib.Core.List.{List, [], _∷_, _++_}
+use mathlib.Core.List.{List, []}
 use native.Mathlib.Omega.{arith}
 use borrow.Author.Tests.{eq-eqb, ne-eqb}
 use lib.IntN.{ℤ}
-use mir.Syntax.{w64}
-use mir.Val.{SFits, toZ, ofZ}
-use mir.ValLaws.{toZ-ofZ}
 use lib.ListN.{length}
 use Rattle.bencode.specs.declared.entry.Entry.{Entry}
 use Rattle.bencode.specs.declared.field.Field.{Field}
@@ -19,11 +16,11 @@ use Rattle.bencode.specs.String.{stringAt}
 use Rattle.bencode.specs.Integer.{integerAt}
 use Rattle.bencode.specs.Entry.{entryAt}
 use Rattle.bencode.specs.Field.{numberField, textField, fieldAt, entryField, fieldOf}
-use Rattle.bencode.specs.Value.{integer, string, list, dictionary, Values, Entries, encodeString, encode, encodeAll, encodeEntries, Found, found, missing, lookup}
+use Rattle.bencode.specs.Value.{integer, string, list, dictionary, encodeString, encode, Found, found, missing, lookup}
 use Rattle.bencode.specs.Demands.{Located, Shows, ShowsValue, ShowsFound, FindsField}
-use Rattle.bencode.proofs.Ends.{SignedInteger, plus, minus, integer-inv}
-use Rattle.bencode.proofs.BeginsLaws.{begins-right}
-use Rattle.bencode.proofs.Lookups.{starts, reads-integer, reads-string, finds-entry}
+use Rattle.bencode.proofs.Ends.{integer-fits}
+use Rattle.bencode.proofs.Ranges.{machine, same}
+use Rattle.bencode.proofs.Lookups.{starts, items-begin, entries-begin, reads-integer, reads-string, finds-entry}
 
 -- ---- each way through
 module _ (s : List ℕ) (at : ℕ) where
@@ -44,26 +41,14 @@ module _ (s : List ℕ) (at : ℕ) where
   field-text l d i = rw (ne-eqb (byteAt s at) 108 l, ne-eqb (byteAt s at) 100 d, ne-eqb (byteAt s at) 105 i) refl
 
 -- an integer that is read, as the machine has it
-pub field-number : (s : List ℕ) (at : ℕ) (z : ℤ) (end : ℕ) → integerAt s at ≡ Number.Integer z end → Field.Integer (toZ w64 (ofZ w64 z)) end ≡ numberField (integerAt s at)
-field-number s at z end e = rw (toZ-ofZ w64 z (go (integer-inv s at z end e)), e) refl
-  where
-    go : SignedInteger s at z end → SFits w64 z
-    go (plus b w) = record { sfits = w .fits }
-    go (minus b c d w) = record { sfits = w .fits }
+pub field-number : (s : List ℕ) (at : ℕ) (z : ℤ) (end : ℕ) → integerAt s at ≡ Number.Integer z end → Field.Integer (machine z) end ≡ numberField (integerAt s at)
+field-number s at z end e = rw (same z (integer-fits s at z end e), e) refl
 
 pub field-entry : (s key : List ℕ) (from : ℕ) (e : Entry) → entryAt s key from ≡ e → fieldOf s key from ≡ entryField s e
 unfolding fieldOf
 field-entry s key from e q = ap (entryField s) q
 
 -- ---- the grammar's values
-list-inside : (vs : Values) (s : List ℕ) (at end : ℕ) → Begins s at (encode (list vs)) end → Begins s (at + 1) (encodeAll vs ++ (101 ∷ [])) end
-unfolding encode
-list-inside vs s at end b = begins-right s at end (108 ∷ []) (encodeAll vs ++ (101 ∷ [])) b
-
-dictionary-inside : (es : Entries) (s : List ℕ) (at end : ℕ) → Begins s at (encode (dictionary es)) end → Begins s (at + 1) (encodeEntries es ++ (101 ∷ [])) end
-unfolding encode
-dictionary-inside es s at end b = begins-right s at end (100 ∷ []) (encodeEntries es ++ (101 ∷ [])) b
-
 -- a value stands up to the end of its encoding
 begins-exactly : (s : List ℕ) (at : ℕ) (bytes : List ℕ) (end : ℕ) → Begins s at bytes end → Begins s at bytes (at + length bytes)
 begins-exactly s at bytes end b = record { rest = b .rest; is = b .is; ends = refl }
@@ -81,10 +66,10 @@ shows-value p levels (integer z) s at end formed b =
 shows-value p levels (string text) s at end formed b = text-shown p text s at end b
 shows-value p zero (list vs) s at end formed b = absurd formed
 shows-value p (suc levels) (list vs) s at end formed b =
-    (field-list s at (starts (list vs) s at end b), levels, formed, list-inside vs s at (at + length (encode (list vs))) (begins-exactly s at (encode (list vs)) end b))
+    (field-list s at (starts (list vs) s at end b), levels, formed, items-begin s at (at + length (encode (list vs))) vs (begins-exactly s at (encode (list vs)) end b))
 shows-value p zero (dictionary es) s at end formed b = absurd formed
 shows-value p (suc levels) (dictionary es) s at end formed b =
-    (field-dictionary s at (starts (dictionary es) s at end b), levels, formed, dictionary-inside es s at (at + length (encode (dictionary es))) (begins-exactly s at (encode (dictionary es)) end b))
+    (field-dictionary s at (starts (dictionary es) s at end b), levels, formed, entries-begin s at (at + length (encode (dictionary es))) es (begins-exactly s at (encode (dictionary es)) end b))
 
 pub finds-field : FindsField
 unfolding fieldOf

@@ -1,3 +1,4 @@
+pub mod Ranges
 pub mod LoopLaws
 pub mod NumeralLaws
 pub mod StringLaws

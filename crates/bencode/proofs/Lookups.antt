@@ -18,7 +18,7 @@ use Rattle.bencode.specs.Integer.{InRange, integerAt}
 use Rattle.bencode.specs.Walk.{listFrom, dictionaryFrom, valueAt}
 use Rattle.bencode.specs.Skip.{skipValue, skipRest}
 use Rattle.bencode.specs.Entry.{entryAt}
-use Rattle.bencode.specs.Value.{Value, integer, string, list, dictionary, no-entry, entry, encodeString, encode, encodeEntries, found, missing, lookup, lookupAt}
+use Rattle.bencode.specs.Value.{Value, integer, string, list, dictionary, Values, no-entry, entry, Entries, encodeString, encode, encodeAll, encodeEntries, found, missing, lookup, lookupAt}
 use Rattle.bencode.specs.Demands.{ReadsInteger, ReadsString, SkipsValue, SkipsItems, SkipsEntries, FindsItem, EndsItems, Located, FindsEntry}
 use Rattle.bencode.proofs.WalkLaws.{value-ends}
 use Rattle.bencode.proofs.SkipLaws.{value-skips, list-skips, dictionary-skips}
@@ -26,7 +26,7 @@ use Rattle.bencode.proofs.EntryLaws.{find-none, find-here, find-more}
 use Rattle.bencode.proofs.ItemLaws.{item-last, item-value}
 use Rattle.bencode.proofs.BeginsLaws.{begins-left, begins-right, begins-head}
 use Rattle.bencode.proofs.Encodings.{entries-text}
-use Rattle.bencode.proofs.FirstBytes.{FirstByte, first-byte, no-string}
+use Rattle.bencode.proofs.FirstBytes.{FirstByte, first-byte, no-end, no-string}
 use Rattle.bencode.proofs.IntegerLaws.{integer-other}
 use Rattle.bencode.proofs.ScalarReads.{string-reads, integer-reads}
 use Rattle.bencode.proofs.Complete.{value-no-e, value-reads, list-reads, dictionary-reads}
@@ -34,6 +34,19 @@ use Rattle.bencode.proofs.Complete.{value-no-e, value-reads, list-reads
 -- the first byte of a value, with nothing after it
 pub starts : (v : Value) (s : List ℕ) (at end : ℕ) → Begins s at (encode v) end → FirstByte v (byteAt s at)
 starts v s at end b = first-byte s v at end [] (subst (λ (l : List ℕ). Begins s at l end) (sym (append-nil (encode v))) b)
+
+-- no value begins with `e`
+pub value-first : (s : List ℕ) (at end : ℕ) (v : Value) → Begins s at (encode v) end → byteAt s at ≡ 101 → ⊥
+value-first s at end v b q = no-end s v (byteAt s at) (starts v s at end b) q
+
+-- the values of a list, and the entries of a dictionary
+pub items-begin : (s : List ℕ) (at end : ℕ) (vs : Values) → Begins s at (encode (list vs)) end → Begins s (at + 1) (encodeAll vs ++ (101 ∷ [])) end
+unfolding encode
+items-begin s at end vs b = begins-right s at end (108 ∷ []) (encodeAll vs ++ (101 ∷ [])) b
+
+pub entries-begin : (s : List ℕ) (at end : ℕ) (es : Entries) → Begins s at (encode (dictionary es)) end → Begins s (at + 1) (encodeEntries es ++ (101 ∷ [])) end
+unfolding encode
+entries-begin s at end es b = begins-right s at end (100 ∷ []) (encodeEntries es ++ (101 ∷ [])) b
 
 no-integer : (s : List ℕ) (at : ℕ) → (byteAt s at ≡ 105 → ⊥) → (f : Fault) × (integerAt s at ≡ Number.Fault f)
 no-integer s at h = (fault 5 at, sym (integer-other s at h))

@@ -1,10 +1,10 @@
 -- Integers: `i`, an optional `-`, decimal digits, `e`; no leading zero, no `-0` (document 01, 'The frame').
 -- Assumes nothing.
 use Prim.Native.Nat.{ℕ, _+_, _^_, _<_}
-use mathlib.Core.Bool.{Bool, true, false, cond}
+use mathlib.Core.Bool.{Bool, true, false, cond, _&&_}
 use mathlib.Core.List.{List}
 use lib.IntN.{ℤ, pos, negℤ}
-use lib.Signed.{mag}
+use lib.Signed.{mag, leZ}
 use lib.Dec.{ltb, eqb}
 use Rattle.bencode.specs.declared.numeral.Decimal.{Decimal}
 use Rattle.bencode.specs.declared.integer.Number.{Number}
@@ -24,6 +24,10 @@ rangeBound = 2 ^ 63
 
 abbrev pub InRange : ℤ → Type 0
 InRange z = mag z < rangeBound
+
+-- is an integer from one number to another
+abbrev pub within : ℕ → ℕ → ℤ → Bool
+within low high z = leZ (pos low) z && leZ z (pos high)
 
 -- the integer z whose `i` is at an offset, where it is in the range; else 6 at the `i`
 abbrev pub inRange : ℕ → ℤ → ℕ → Number

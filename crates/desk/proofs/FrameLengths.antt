@@ -15,7 +15,7 @@ use Rattle.bencode.specs.Value.{integer, encodeString, encode, encodeAll}
 use Rattle.bencode.proofs.DigitLaws.{length-pos, length-below}
 use Rattle.bencode.proofs.PutParts.{integer-size}
 use Rattle.ipc.specs.declared.write.Given.{Given}
-use Rattle.ipc.specs.Ascii.{ascii}
+use Rattle.bencode.specs.Ascii.{ascii}
 use Rattle.ipc.specs.Ids.{largestId, largestTag}
 use Rattle.ipc.specs.Keys.{keyText, classOf, listed}
 use Rattle.ipc.specs.Write.{encodeGiven, encodeTag, payloadOf}

@@ -8,7 +8,7 @@ use native.Mathlib.Omega.{arith}
 use mir.Syntax.{w32, w64}
 use mir.Val.{SFits, toZ, ofZ}
 use mir.ValLaws.{toZ-ofZ}
-use Rattle.ipc.proofs.Ranges.{lt-false, not-lt, and-false}
+use Rattle.bencode.proofs.Ranges.{lt-false, not-lt, and-false}
 use Rattle.desk.specs.declared.limit.Limit.{Limit}
 use Rattle.desk.specs.declared.limit.OptionalLimit.{OptionalLimit}
 use Rattle.desk.specs.Limit.{unlimited, largestLimit, isLimit, limitOf}

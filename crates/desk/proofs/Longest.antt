@@ -10,7 +10,7 @@ use lib.IntN.{ℤ}
 use lib.ListN.{length, length-append}
 use Rattle.bencode.specs.Numeral.{decimal, decimalBefore}
 use Rattle.bencode.specs.Value.{encode}
-use Rattle.ipc.specs.Ascii.{ascii}
+use Rattle.bencode.specs.Ascii.{ascii}
 use Rattle.ipc.specs.Hex.{hexHeader, hexIn}
 use Rattle.ipc.specs.Keys.{keyText, classOf, listed}
 use Rattle.ipc.specs.Write.{encodeGiven, encodeTag, payloadOf, frameOf}

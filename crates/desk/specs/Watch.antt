@@ -5,7 +5,8 @@ use mathlib.Core.Bool.{Bool, true, false, cond, not, _&&_, _||_}
 use mathlib.Core.List.{List, [], _∷_, _++_}
 use lib.Dec.{eqb}
 use lib.IntN.{pos}
-use Rattle.ipc.specs.Ids.{largestId, within}
+use Rattle.bencode.specs.Integer.{within}
+use Rattle.ipc.specs.Ids.{largestId}
 use Rattle.desk.specs.declared.watch.Watch.{Watch}
 use Rattle.desk.specs.declared.lists.Pick.{Pick}
 

@@ -19,6 +19,7 @@ use Rattle.bencode.specs.Walk.{valueAt, whole, payloadAt}
 use Rattle.bencode.specs.Depth.{largestDepth}
 use Rattle.bencode.specs.Value.{Value, integer, string, list, dictionary, encode}
 use Rattle.bencode.proofs.Grammar.{accepts-exactly as payload-accepts}
+use Rattle.bencode.proofs.JudgeLaws.{walked-whole}
 use Rattle.ipc.specs.declared.header.Header.{Header}
 use Rattle.ipc.specs.declared.header.Sized.{Sized}
 use Rattle.ipc.specs.Answer.{Answer, refused, answerOf}
@@ -28,12 +29,12 @@ use Rattle.ipc.specs.Meaning.{meaning}
 use Rattle.ipc.specs.Demands.{HexDigits, none, more, hexFrom, Framed, AnswersMeaning, AcceptsExactly, Headed, AnswerRow, framed, short-header, short-payload, no-digit, over-protocol, over-limit, payload-fault, AnswersByRow}
 use Rattle.ipc.proofs.HeaderLaws.{in-some, in-none}
 use Rattle.ipc.proofs.FrameLaws.{payload-fault as fault-payload, payload-dictionary, payload-list, payload-scalar, length-short, length-there, sized-fits, sized-over-limit, sized-over-protocol, frame-no-digit, frame-short, frame-sized}
-use Rattle.ipc.proofs.Means.{Good, items-begin, entries-begin, good-list, good-dictionary}
+use Rattle.ipc.proofs.Means.{Good, good-list, good-dictionary}
 use Rattle.ipc.proofs.Messages.{message-means}
 use Rattle.bencode.specs.Key.{isFaultCode}
 use Rattle.bencode.proofs.Order.{clash}
 use Rattle.bencode.proofs.FaultCodes.{faults-coded}
-use Rattle.bencode.proofs.Lookups.{starts}
+use Rattle.bencode.proofs.Lookups.{starts, items-begin, entries-begin}
 use Rattle.ipc.proofs.Handshakes.{handshake-means}
 
 -- ---- payloads
@@ -57,19 +58,6 @@ payload-means v h = go v h (payload-accepts Profile.Loose (encode v) .1 (v, h, r
     go (dictionary es) h e b =
         let p = encode (dictionary es) in
         ap answerOf (sym (payload-dictionary p (length p) e (starts (dictionary es) p 0 (length p) b))) ∙ handshake-means p es (length p) (good-dictionary es h) (entries-begin p 0 (length p) es b)
-
--- a walk to an end is one to the payload's end
-whole-end : (p : List ℕ) (end : ℕ) → payloadAt Profile.Loose p ≡ Walk.End end → payloadAt Profile.Loose p ≡ Walk.End (length p)
-unfolding payloadAt
-whole-end p end e = go (valueAt Profile.Loose largestDepth p 0) e
-  where
-    ended : (k : ℕ) (t : Bool) → eqb k (length p) ≡ t → cond t (Walk.End k) (Walk.Fault (fault 9 k)) ≡ Walk.End end → cond t (Walk.End k) (Walk.Fault (fault 9 k)) ≡ Walk.End (length p)
-    ended k true q e = ap (λ (n : ℕ). Walk.End n) (eqb-true k (length p) q)
-    ended k false q e = let z : _≡_ {A = ℕ} 0 1 = cc in absurd (omega arith)
-
-    go : (w : Walk) → whole p w ≡ Walk.End end → whole p w ≡ Walk.End (length p)
-    go (Walk.End k) e = ended k (eqb k (length p)) refl e
-    go (Walk.Fault f) e = let z : _≡_ {A = ℕ} 0 1 = cc in absurd (omega arith)
 
 -- ---- headers
 header-before : (ds rest : List ℕ) (k i v : ℕ) → length ds ≡ k → HexDigits ds → headerIn k i v (ds ++ rest) ≡ Header.Length (hexFrom v ds)
@@ -163,7 +151,7 @@ module _ (s : List ℕ) where
   payload-row : (p after : List ℕ) → Headed s (length p) (p ++ after) → length p ≤ largestPayload → (w : Walk) → payloadAt Profile.Loose p ≡ w → (a : Answer) × AnswerRow s a
   payload-row p after h small (Walk.Fault f) e = (refused (f .code) (f .offset), payload-fault p after f h small e)
   payload-row p after h small (Walk.End end) e =
-      let v = payload-accepts Profile.Loose p .0 (whole-end p end e) in
+      let v = payload-accepts Profile.Loose p .0 (walked-whole Profile.Loose p end e) in
       let size : length p ≡ length (encode (v .0)) = ap length (v .2) in (
         meaning (8 + length (encode (v .0))) (v .0),
         framed (record {

@@ -18,7 +18,7 @@ use Rattle.ipc.specs.declared.keys.Class.{Class}
 use Rattle.ipc.specs.declared.write.Given.{Given}
 use Rattle.ipc.specs.Format.{itemsEnd}
 use Rattle.ipc.specs.Write.{isIdList, integerFits, valueFits}
-use Rattle.ipc.proofs.Ranges.{machine, same}
+use Rattle.bencode.proofs.Ranges.{machine, same}
 
 -- ---- lists of torrent IDs
 module _ (s : List ℕ) where

@@ -17,9 +17,9 @@ use Rattle.bencode.specs.declared.integer.Number.{Number}
 use Rattle.bencode.specs.declared.fault.Walk.{Walk}
 use Rattle.bencode.specs.Bytes.{byteAt}
 use Rattle.bencode.specs.String.{stringAt, textEnd}
-use Rattle.bencode.specs.Integer.{integerAt}
+use Rattle.bencode.specs.Integer.{integerAt, within}
 use Rattle.bencode.proofs.LoopLaws.{Past}
-use Rattle.bencode.proofs.Ends.{SignedInteger, plus, minus, integer-inv, integer-ends, string-whole-inv}
+use Rattle.bencode.proofs.Ends.{integer-fits, integer-ends, string-whole-inv}
 use Rattle.bencode.proofs.WalkLaws.{Ends}
 use Rattle.bencode.proofs.SkipLaws.{skip-range}
 use Rattle.bencode.proofs.EntryLaws.{find-past}
@@ -30,19 +30,11 @@ use Rattle.bencode.specs.declared.entry.Entry.{Entry}
 use Rattle.ipc.specs.declared.format.Checked.{Checked}
 use Rattle.ipc.specs.declared.format.Items.{Items}
 use Rattle.ipc.specs.declared.reading.Value.{Value}
-use Rattle.ipc.specs.Ascii.{ascii}
-use Rattle.ipc.specs.Ids.{within, torrentIdOf}
+use Rattle.bencode.specs.Ascii.{ascii}
+use Rattle.ipc.specs.Ids.{torrentIdOf}
 use Rattle.bencode.specs.Entry.{entryAt}
 use Rattle.ipc.specs.Format.{anyInteger, upTo, textValue, partValue, offItem, idThen, idNumber, idEnd, afterId, torrentWith, torrentEnd, itemEnd, itemsEnd, listPart}
-use Rattle.ipc.proofs.Ranges.{machine, natural-machine, same, too-low, too-high, in-range}
-
--- an integer that is read fits 64 bits
-pub integer-fits : (p : List ℕ) (at : ℕ) (z : ℤ) (end : ℕ) → integerAt p at ≡ Number.Integer z end → SFits w64 z
-integer-fits p at z end e = go (integer-inv p at z end e)
-  where
-    go : SignedInteger p at z end → SFits w64 z
-    go (plus b w) = record { sfits = w .fits }
-    go (minus b c d w) = record { sfits = w .fits }
+use Rattle.bencode.proofs.Ranges.{machine, natural-machine, same, too-low, too-high, in-range}
 
 -- an integer from 0 to another, by the tests of the source
 module _ (z : ℤ) (f : SFits w64 z) (high : ℕ) where

@@ -10,7 +10,7 @@ use lib.ListN.{length, length-append}
 use Rattle.bencode.specs.Numeral.{decimalBefore, decimal}
 use Rattle.bencode.specs.Value.{integer, encode}
 use Rattle.ipc.specs.declared.write.Written.{Written}
-use Rattle.ipc.specs.Ascii.{ascii}
+use Rattle.bencode.specs.Ascii.{ascii}
 use Rattle.ipc.specs.Greeting.{isRange, handshakePayload, handshakeWritten}
 use Rattle.ipc.specs.Write.{fitted}
 

@@ -15,9 +15,9 @@ use Rattle.bencode.specs.declared.integer.Number.{Number}
 use Rattle.bencode.specs.Bytes.{byteAt}
 use Rattle.bencode.specs.Integer.{integerAt}
 use Rattle.ipc.specs.declared.versions.OptionalVersions.{OptionalVersions}
-use Rattle.ipc.specs.Ascii.{ascii}
+use Rattle.bencode.specs.Ascii.{ascii}
 use Rattle.ipc.specs.Handshake.{largestVersion, rangeOf, integerOf, between, versionsAt}
-use Rattle.ipc.proofs.Ranges.{machine, same, and-false, lt-false, not-lt, le-not, le-yes, ge-not, ge-yes, Natural}
+use Rattle.bencode.proofs.Ranges.{machine, same, and-false, lt-false, not-lt, le-not, le-yes, ge-not, ge-yes, Natural}
 
 module _ (a b : ℤ) (fa : SFits w64 a) (fb : SFits w64 b) where
   order : (t : Bool) → ltZ (machine b) (machine a) ≡ t → ltZ b a ≡ t

@@ -15,16 +15,16 @@ use Rattle.bencode.specs.Bytes.{Begins}
 use Rattle.bencode.specs.declared.entry.Entry.{Entry}
 use Rattle.ipc.specs.declared.versions.OptionalVersions.{OptionalVersions}
 use Rattle.ipc.specs.Answer.{answerOf}
-use Rattle.ipc.specs.Ascii.{ascii}
+use Rattle.bencode.specs.Ascii.{ascii}
 use Rattle.bencode.specs.Entry.{entryAt}
 use Rattle.ipc.specs.Handshake.{entryInteger, integerOf, between, versionsAt, entryVersions, dictionaryVersions, handshakeOf, handshakeReading}
 use Rattle.ipc.specs.Meaning.{rangeTo, rangeFrom, versionsOf, versionsAnswer}
 use Rattle.ipc.proofs.HandshakeLaws.{versions-dictionary, versions-integer}
 use Rattle.bencode.specs.Depth.{largestDepth}
 use Rattle.bencode.specs.Demands.{Located}
-use Rattle.bencode.proofs.Lookups.{starts, reads-integer}
+use Rattle.bencode.proofs.Lookups.{starts, reads-integer, entries-begin}
 use Rattle.ipc.specs.Header.{headerLength}
-use Rattle.ipc.proofs.Means.{Good, entries-begin, find-means, good-dictionary}
+use Rattle.ipc.proofs.Means.{Good, find-means, good-dictionary}
 
 -- an integer that is read where a value is one, and a fault where it is none
 abbrev Numbered : Found → Number → Type 0

@@ -16,25 +16,25 @@ use Rattle.bencode.specs.declared.profile.Profile.{Profile}
 use Rattle.bencode.specs.Bytes.{letterL, byteAt, Begins}
 use Rattle.bencode.specs.Depth.{largestDepth}
 use Rattle.bencode.specs.Fault.{fault}
-use Rattle.bencode.specs.Integer.{InRange, integerAt}
+use Rattle.bencode.specs.Integer.{InRange, integerAt, within}
 use Rattle.bencode.specs.Loop.{done, after, repeat}
 use Rattle.bencode.specs.Scalar.{scalarAt}
 use Rattle.bencode.specs.Value.{Value, integer, string, list, dictionary, Values, no-value, value, encode, All, WellFormed}
 use Rattle.bencode.specs.Walk.{onward, listStep, listFrom, valueAt, payloadAt}
 use Rattle.bencode.proofs.Ends.{SignedInteger, plus, minus, integer-inv}
 use Rattle.bencode.proofs.Grammar.{accepts-exactly}
-use Rattle.bencode.proofs.Lookups.{starts}
+use Rattle.bencode.proofs.Lookups.{starts, items-begin}
 use Rattle.bencode.proofs.Order.{clash}
 use Rattle.bencode.proofs.WalkLaws.{value-scalar, value-list}
 use Rattle.ipc.specs.declared.format.Items.{Items}
 use Rattle.ipc.specs.declared.ids.OptionalId.{OptionalId}
 use Rattle.ipc.specs.Format.{idThen, idNumber, idEnd, itemEnd, itemsEnd}
 use Rattle.ipc.specs.Demands.{IdList, IdListExactly}
-use Rattle.ipc.specs.Ids.{largestId, within, torrentIdOf}
+use Rattle.ipc.specs.Ids.{largestId, torrentIdOf}
 use Rattle.ipc.specs.Meaning.{isId, every}
 use Rattle.ipc.specs.Write.{endsAt, isIdList}
 use Rattle.ipc.proofs.Inverts.{and-left, and-right}
-use Rattle.ipc.proofs.Means.{Good, Judge, good-list, items-begin, items-mean}
+use Rattle.ipc.proofs.Means.{Good, Judge, good-list, items-mean}
 
 -- ---- a torrent ID is a value
 -- an integer begins with `i`

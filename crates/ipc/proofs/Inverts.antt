@@ -19,8 +19,9 @@ use Rattle.ipc.specs.declared.format.Checked.{Checked}
 use Rattle.ipc.specs.declared.reading.Value.{Value as MessageValue}
 use Rattle.ipc.specs.declared.versions.OptionalVersions.{OptionalVersions}
 use Rattle.ipc.specs.Answer.{Answer, message, handshake, refused, accepted, tagNumber, contentOf}
-use Rattle.ipc.specs.Ascii.{ascii}
-use Rattle.ipc.specs.Ids.{largestTag, within, tagOf}
+use Rattle.bencode.specs.Ascii.{ascii}
+use Rattle.bencode.specs.Integer.{within}
+use Rattle.ipc.specs.Ids.{largestTag, tagOf}
 use Rattle.ipc.specs.Keys.{keyText, Listed, listed, unlisted, numberFrom, keyNumber, classOf, isWritten}
 use Rattle.ipc.specs.Meaning.{judged, answered, taggedOf, thirdOf, listOf, versionsOf, versionsAnswer, meaning}
 use Rattle.ipc.specs.Write.{encodeTag}

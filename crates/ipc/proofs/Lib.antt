@@ -1,4 +1,3 @@
-pub mod Ranges
 pub mod HeaderLaws
 pub mod KeyLaws
 pub mod FormatLaws

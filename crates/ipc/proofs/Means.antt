@@ -15,7 +15,7 @@ use Rattle.bencode.specs.declared.profile.Profile.{Profile}
 use Rattle.bencode.specs.Bytes.{byteAt, Begins}
 use Rattle.bencode.specs.Depth.{largestDepth}
 use Rattle.bencode.specs.Fault.{fault}
-use Rattle.bencode.specs.Integer.{integerAt}
+use Rattle.bencode.specs.Integer.{integerAt, within}
 use Rattle.bencode.specs.String.{stringAt, textEnd}
 use Rattle.bencode.specs.Skip.{skipRest}
 use Rattle.bencode.specs.Entry.{entryAt}
@@ -24,13 +24,12 @@ use Rattle.bencode.specs.Demands.{Located}
 use Rattle.bencode.proofs.WalkLaws.{any-list-end as list-end, any-list-fault as list-fault, any-list-more as list-more}
 use Rattle.bencode.proofs.BeginsLaws.{begins-left, begins-right, begins-head}
 use Rattle.bencode.proofs.Encodings.{values-text}
-use Rattle.bencode.proofs.FirstBytes.{no-end}
 use Rattle.bencode.proofs.Levels.{all-more, entries-more, formed-more}
-use Rattle.bencode.proofs.Lookups.{starts, reads-integer, reads-string, finds-entry}
+use Rattle.bencode.proofs.Lookups.{starts, value-first, entries-begin, reads-integer, reads-string, finds-entry}
 use Rattle.ipc.specs.declared.ids.OptionalId.{OptionalId}
 use Rattle.ipc.specs.declared.format.Items.{Items}
-use Rattle.ipc.specs.Ascii.{ascii}
-use Rattle.ipc.specs.Ids.{largestId, within, torrentIdOf}
+use Rattle.bencode.specs.Ascii.{ascii}
+use Rattle.ipc.specs.Ids.{largestId, torrentIdOf}
 use Rattle.ipc.specs.Format.{idThen, idNumber, idEnd, torrentEnd, itemEnd, itemsEnd}
 use Rattle.ipc.specs.Meaning.{isId, isText, foundId, isTorrent, every}
 use Rattle.ipc.proofs.FormatLaws.{item-ends, torrent-other, torrent-no-id, torrent-bad, torrent-good}
@@ -65,19 +64,6 @@ okItem Items.Torrents v = isTorrent v
 
 module _ (p : List ℕ) where
   module _ (at e : ℕ) where
-    -- the values of a list and the entries of a dictionary
-    pub items-begin : (vs : Values) → Begins p at (encode (list vs)) e → Begins p (at + 1) (encodeAll vs ++ (101 ∷ [])) e
-    unfolding encode
-    items-begin vs b = begins-right p at e (108 ∷ []) (encodeAll vs ++ (101 ∷ [])) b
-
-    pub entries-begin : (es : Entries) → Begins p at (encode (dictionary es)) e → Begins p (at + 1) (encodeEntries es ++ (101 ∷ [])) e
-    unfolding encode
-    entries-begin es b = begins-right p at e (100 ∷ []) (encodeEntries es ++ (101 ∷ [])) b
-
-    -- no value begins with `e`
-    pub value-first : (v : Value) → Begins p at (encode v) e → byteAt p at ≡ 101 → ⊥
-    value-first v b q = no-end p v (byteAt p at) (starts v p at e b) q
-
     -- ---- items
     no-id : (f : Fault) → integerAt p at ≡ Number.Fault f → Judge false (idEnd p at) e
     unfolding idEnd
@@ -110,7 +96,7 @@ module _ (p : List ℕ) where
   torrent-means (integer z) at e h b = (fault 22 at, sym (torrent-other p at (λ q. omega (arith, starts (integer z) p at e b))))
   torrent-means (string text) at e h b = (fault 22 at, sym (torrent-other p at (λ q. omega (arith, starts (string text) p at e b))))
   torrent-means (list vs) at e h b = (fault 22 at, sym (torrent-other p at (λ q. omega (arith, starts (list vs) p at e b))))
-  torrent-means (dictionary es) at e h b = go (lookup (ascii "id") es) (entryAt p (ascii "id") (at + 1)) refl (find-means (ascii "id") es (at + 1) e (good-dictionary es h) (entries-begin at e es b))
+  torrent-means (dictionary es) at e h b = go (lookup (ascii "id") es) (entryAt p (ascii "id") (at + 1)) refl (find-means (ascii "id") es (at + 1) e (good-dictionary es h) (entries-begin p at e es b))
     where
       hundred : byteAt p at ≡ 100
       hundred = starts (dictionary es) p at e b
@@ -140,7 +126,7 @@ module _ (p : List ℕ) where
   items-mean items (value v vs) at e h b =
       let c = subst (λ (l : List ℕ). Begins p at l e) (values-text v vs) b in
       let x = begins-left p at e (encode v) (encodeAll vs ++ (101 ∷ [])) c in
-      go (okItem items v) (item-means items v at (at + length (encode v)) (h .0) x) (value-first at (at + length (encode v)) v x)
+      go (okItem items v) (item-means items v at (at + length (encode v)) (h .0) x) (value-first p at (at + length (encode v)) v x)
       (items-mean items vs (at + length (encode v)) e (h .1) (begins-right p at e (encode v) (encodeAll vs ++ (101 ∷ [])) c))
     where
       go : (t : Bool) → Judge t (itemEnd items p at) (at + length (encode v)) → (byteAt p at ≡ 101 → ⊥) → Judge (every (okItem items) vs) (itemsEnd items p (at + length (encode v))) e → Judge (t && every (okItem items) vs) (itemsEnd items p at) e

@@ -20,8 +20,8 @@ use Rattle.ipc.specs.declared.reading.Reading.{Reading}
 use Rattle.ipc.specs.Ids.{tagOf}
 use Rattle.ipc.specs.Keys.{keyNumber}
 use Rattle.ipc.specs.Message.{tailAt, fromTag, messageReading}
-use Rattle.ipc.proofs.Ranges.{machine, same}
-use Rattle.ipc.proofs.FormatLaws.{integer-fits}
+use Rattle.bencode.proofs.Ranges.{machine, same}
+use Rattle.bencode.proofs.Ends.{integer-fits}
 
 module _ (p : List ℕ) (at : ℕ) where
   pub third-end : byteAt p at ≡ 101 → Tail.Tag OptionalTag.None ≡ tailAt p at

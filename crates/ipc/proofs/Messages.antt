@@ -14,12 +14,12 @@ use Rattle.bencode.specs.declared.integer.Number.{Number}
 use Rattle.bencode.specs.declared.profile.Profile.{Profile}
 use Rattle.bencode.specs.Bytes.{byteAt, part, Begins}
 use Rattle.bencode.specs.String.{stringAt}
-use Rattle.bencode.specs.Integer.{integerAt}
+use Rattle.bencode.specs.Integer.{integerAt, within}
 use Rattle.bencode.specs.Depth.{largestDepth}
 use Rattle.bencode.specs.Value.{Value, integer, string, list, dictionary, Values, no-value, value, encodeString, encode, encodeAll, All}
 use Rattle.bencode.proofs.Encodings.{values-text}
 use Rattle.bencode.proofs.FirstBytes.{no-string}
-use Rattle.bencode.proofs.Lookups.{starts, reads-integer, reads-string, finds-item, ends-items}
+use Rattle.bencode.proofs.Lookups.{starts, reads-integer, reads-string, finds-item, ends-items, items-begin, value-first}
 use Rattle.bencode.specs.Numeral.{decimal}
 use Rattle.bencode.proofs.BeginsLaws.{begins-left, begins-right, begins-head}
 use Rattle.bencode.proofs.ScalarReads.{string-reads}
@@ -32,14 +32,14 @@ use Rattle.ipc.specs.declared.format.Items.{Items}
 use Rattle.ipc.specs.declared.reading.Value.{Value as MessageValue}
 use Rattle.ipc.specs.Answer.{refused, answerOf}
 use Rattle.ipc.specs.Header.{headerLength}
-use Rattle.ipc.specs.Ids.{within, tagOf}
+use Rattle.ipc.specs.Ids.{tagOf}
 use Rattle.ipc.specs.Keys.{keyNumber, classOf}
 use Rattle.ipc.specs.Format.{largestPort, anyInteger, upTo, textValue, partValue, itemsEnd, listPart, formatted}
 use Rattle.ipc.specs.Message.{lastTag, tailAt, valued, fromTag, messageReading}
 use Rattle.ipc.specs.Meaning.{every, wholeAt, asInteger, asText, asList, judged, answered, messageOf, lastOf, thirdOf, secondOf, listOf}
 use Rattle.ipc.proofs.FormatLaws.{list-other, list-good, list-off}
 use Rattle.ipc.proofs.MessageLaws.{third-end, message-no-key, message-no-value, message-keyed}
-use Rattle.ipc.proofs.Means.{Good, Judge, okItem, items-begin, value-first, items-mean, good-list}
+use Rattle.ipc.proofs.Means.{Good, Judge, okItem, items-mean, good-list}
 
 module _ (p : List ℕ) where
   module _ (at e : ℕ) where

@@ -25,7 +25,7 @@ use Rattle.ipc.specs.declared.reading.Value.{Value as MessageValue}
 use Rattle.ipc.specs.declared.write.Given.{Given}
 use Rattle.ipc.specs.declared.write.Written.{Written}
 use Rattle.ipc.specs.Answer.{Answer, part, accepted, acceptedHandshake, contentOf}
-use Rattle.ipc.specs.Ascii.{ascii}
+use Rattle.bencode.specs.Ascii.{ascii}
 use Rattle.ipc.specs.Frame.{readFrame}
 use Rattle.ipc.specs.Greeting.{isRange, handshakeValue, handshakePayload, handshakeWritten}
 use Rattle.ipc.specs.Handshake.{largestVersion, rangeOf}

@@ -13,7 +13,7 @@ use Rattle.bencode.specs.Loop.{repeat}
 use Rattle.bencode.specs.Skip.{skipFrom}
 use Rattle.bencode.specs.Item.{itemAt}
 use Rattle.bencode.specs.Walk.{listFrom, dictionaryFrom, valueAt, payloadAt}
-use Rattle.ipc.specs.Ascii.{ascii}
+use Rattle.bencode.specs.Ascii.{ascii}
 use Rattle.ipc.specs.Header.{hexValue, headerIn, readHeader, sized}
 use Rattle.ipc.specs.Ids.{tagOf, torrentIdOf}
 use Rattle.ipc.specs.Keys.{listed, numberFrom, keyNumber, keyText, classOf}

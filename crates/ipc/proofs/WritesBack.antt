@@ -15,7 +15,7 @@ use Rattle.bencode.specs.Bytes.{letterE, letterL, Begins}
 use Rattle.bencode.specs.Numeral.{decimal}
 use Rattle.bencode.specs.Value.{Value, integer, string, list, dictionary, Values, encodeString, encode}
 use Rattle.bencode.proofs.BeginsLaws.{part-begins}
-use Rattle.bencode.proofs.Lookups.{reads-string}
+use Rattle.bencode.proofs.Lookups.{reads-string, items-begin}
 use Rattle.bencode.proofs.Order.{clash}
 use Rattle.ipc.specs.declared.format.Checked.{Checked}
 use Rattle.ipc.specs.declared.format.Items.{Items}
@@ -27,7 +27,8 @@ use Rattle.ipc.specs.Answer.{Answer, Content, accepted, contentOf}
 use Rattle.ipc.specs.Format.{itemsEnd, largestPort}
 use Rattle.ipc.specs.Header.{headerLength, largestPayload}
 use Rattle.ipc.specs.Hex.{hexHeader, upper, upperHeader}
-use Rattle.ipc.specs.Ids.{within, largestTag}
+use Rattle.bencode.specs.Integer.{within}
+use Rattle.ipc.specs.Ids.{largestTag}
 use Rattle.ipc.specs.Keys.{keyText, Listed, listed, unlisted, keyNumber, classOf, isWritten}
 use Rattle.ipc.specs.Meaning.{isId, every, wholeAt, asInteger, asText, asList, judged}
 use Rattle.ipc.specs.Write.{isIdList, integerFits, valueFits, encodeGiven, encodeTag, payloadOf, frameOf, writeAnswer, messageFault}
@@ -36,7 +37,7 @@ use Rattle.ipc.proofs.Accepts.{accepts-exactly}
 use Rattle.ipc.proofs.HexLaws.{header-from}
 use Rattle.ipc.proofs.OutcomeLaws.{fitted-count}
 use Rattle.ipc.proofs.Inverts.{key-named, written-listed, spelling, Meant, inverts}
-use Rattle.ipc.proofs.Means.{Good, Judge, good-list, items-begin, items-mean}
+use Rattle.ipc.proofs.Means.{Good, Judge, good-list, items-mean}
 
 -- ---- keys that are written have no format of a list but that of torrent IDs
 abbrev allowed : Class → Bool

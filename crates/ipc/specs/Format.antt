@@ -10,7 +10,7 @@ use Rattle.bencode.specs.declared.integer.Number.{Number}
 use Rattle.bencode.specs.declared.string.Text.{Text}
 use Rattle.bencode.specs.Bytes.{letterD, letterL, byteAt}
 use Rattle.bencode.specs.Fault.{fault}
-use Rattle.bencode.specs.Integer.{integerAt}
+use Rattle.bencode.specs.Integer.{integerAt, within}
 use Rattle.bencode.specs.String.{stringAt, textEnd}
 use Rattle.bencode.specs.Walk.{listFrom}
 use Rattle.bencode.specs.Skip.{skipRest}
@@ -19,9 +19,9 @@ use Rattle.ipc.specs.declared.keys.Class.{Class}
 use Rattle.ipc.specs.declared.format.Checked.{Checked}
 use Rattle.ipc.specs.declared.format.Items.{Items}
 use Rattle.ipc.specs.declared.reading.Value.{Value}
-use Rattle.ipc.specs.Ascii.{ascii}
+use Rattle.bencode.specs.Ascii.{ascii}
 use Rattle.ipc.specs.Header.{headerLength}
-use Rattle.ipc.specs.Ids.{within, torrentIdOf}
+use Rattle.ipc.specs.Ids.{torrentIdOf}
 use Rattle.ipc.specs.declared.ids.OptionalId.{OptionalId}
 
 -- any integer

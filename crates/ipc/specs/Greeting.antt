@@ -7,7 +7,7 @@ use lib.Dec.{leb}
 use lib.IntN.{pos}
 use Rattle.bencode.specs.Value.{Value, integer, dictionary, no-entry, entry, encode}
 use Rattle.ipc.specs.declared.write.Written.{Written}
-use Rattle.ipc.specs.Ascii.{ascii}
+use Rattle.bencode.specs.Ascii.{ascii}
 use Rattle.ipc.specs.Handshake.{largestVersion}
 use Rattle.ipc.specs.Write.{fitted}
 

@@ -15,7 +15,7 @@ use Rattle.bencode.specs.Integer.{integerAt}
 use Rattle.bencode.specs.Entry.{entryAt}
 use Rattle.ipc.specs.declared.reading.Reading.{Reading}
 use Rattle.ipc.specs.declared.versions.OptionalVersions.{OptionalVersions}
-use Rattle.ipc.specs.Ascii.{ascii}
+use Rattle.bencode.specs.Ascii.{ascii}
 use Rattle.ipc.specs.Header.{headerLength}
 
 abbrev pub largestVersion : ℕ

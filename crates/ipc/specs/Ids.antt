@@ -1,9 +1,9 @@
 -- Tags and torrent IDs (document 01, 'The message': 1 to 2,147,483,647, and never taken for each other).
 -- Assumes nothing.
 use Prim.Native.Nat.{ℕ}
-use mathlib.Core.Bool.{Bool, cond, _&&_}
-use lib.IntN.{ℤ, pos, natAbs}
-use lib.Signed.{leZ}
+use mathlib.Core.Bool.{cond}
+use lib.IntN.{ℤ, natAbs}
+use Rattle.bencode.specs.Integer.{within}
 use Rattle.ipc.specs.declared.ids.OptionalTag.{OptionalTag}
 use Rattle.ipc.specs.declared.ids.OptionalId.{OptionalId}
 
@@ -12,10 +12,6 @@ largestTag = 2147483647
 
 abbrev pub largestId : ℕ
 largestId = 2147483647
-
--- is an integer from one number to another
-abbrev pub within : ℕ → ℕ → ℤ → Bool
-within low high z = leZ (pos low) z && leZ z (pos high)
 
 -- the tag of a number: 1 to the largest
 unfoldable pub tagOf : ℤ → OptionalTag

@@ -8,7 +8,7 @@ use lib.ListN.{length, getD, replicate}
 use Rattle.bencode.specs.Bytes.{same}
 use Rattle.ipc.specs.declared.keys.Class.{Class}
 use Rattle.ipc.specs.declared.keys.KeyRow.{KeyRow}
-use Rattle.ipc.specs.Ascii.{ascii}
+use Rattle.bencode.specs.Ascii.{ascii}
 
 -- a key: its text, the format of its value, and whether it is written here
 pub record Listed : Type 0 where

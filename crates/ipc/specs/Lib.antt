@@ -1,4 +1,3 @@
-pub mod Ascii
 pub mod Header
 pub mod Ids
 pub mod Keys

@@ -12,9 +12,10 @@ use Rattle.ipc.specs.declared.format.Checked.{Checked}
 use Rattle.ipc.specs.declared.reading.Value.{Value as MessageValue}
 use Rattle.ipc.specs.declared.versions.OptionalVersions.{OptionalVersions}
 use Rattle.ipc.specs.Answer.{Answer, refused, accepted, acceptedHandshake, offFormat, tagNumber, contentOf}
-use Rattle.ipc.specs.Ascii.{ascii}
+use Rattle.bencode.specs.Ascii.{ascii}
 use Rattle.ipc.specs.Header.{headerLength}
-use Rattle.ipc.specs.Ids.{largestId, within, tagOf}
+use Rattle.bencode.specs.Integer.{within}
+use Rattle.ipc.specs.Ids.{largestId, tagOf}
 use Rattle.ipc.specs.Keys.{keyNumber, classOf}
 use Rattle.ipc.specs.Format.{largestPort}
 use Rattle.ipc.specs.Handshake.{rangeOf}

@@ -16,7 +16,8 @@ use Rattle.ipc.specs.declared.write.Given.{Given}
 use Rattle.ipc.specs.declared.write.Written.{Written}
 use Rattle.ipc.specs.Header.{headerLength, largestPayload}
 use Rattle.ipc.specs.Hex.{hexHeader}
-use Rattle.ipc.specs.Ids.{largestTag, within}
+use Rattle.bencode.specs.Integer.{within}
+use Rattle.ipc.specs.Ids.{largestTag}
 use Rattle.ipc.specs.Keys.{keyText, classOf, isWritten}
 use Rattle.ipc.specs.Format.{largestPort, itemsEnd}
 

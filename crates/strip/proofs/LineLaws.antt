@@ -8,7 +8,7 @@ use lib.ListN.{length, length-append}
 use Rattle.bencode.specs.Numeral.{decimal}
 use Rattle.bencode.proofs.DigitLaws.{length-below}
 use Rattle.bencode.proofs.PutLaws.{Writing, start, finish, wrote-front}
-use Rattle.ipc.specs.Ascii.{ascii}
+use Rattle.bencode.specs.Ascii.{ascii}
 use Rattle.strip.specs.declared.line.Line.{Line}
 use Rattle.strip.specs.Line.{space, newline, blank, lineOf}
 

@@ -4,7 +4,7 @@ use Prim.Native.Nat.{ℕ}
 use mathlib.Core.List.{List, [], _∷_, _++_, flatten}
 use lib.ListN.{length, drop, replicate}
 use Rattle.bencode.specs.Numeral.{decimal}
-use Rattle.ipc.specs.Ascii.{ascii}
+use Rattle.bencode.specs.Ascii.{ascii}
 use Rattle.strip.specs.declared.line.Line.{Line}
 
 abbrev pub space : List ℕ

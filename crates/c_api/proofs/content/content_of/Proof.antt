@@ -2,7 +2,7 @@
 -- Assumes nothing.
 use mathlib.Core.Path.{sym, ap, _∙_}
 use borrow.Author.Needs.{needs}
-use Rattle.ipc.proofs.Ranges.{same}
+use Rattle.bencode.proofs.Ranges.{same}
 use Rattle.ipc.specs.Answer.{contentOf}
 use Rattle.ipc.specs.declared.reading.Value.{Value}
 use Rattle.c_api.specs.Numbers.{numbered, contentNumbers}

@@ -11,7 +11,7 @@ use lib.IntN.{pos}
 use Rattle.bencode.specs.Put.{Put}
 use Rattle.bencode.specs.Value.{integer, encode}
 use Rattle.bencode.proofs.PutLaws.{Writing, start, finish}
-use Rattle.ipc.proofs.Ranges.{natural-machine}
+use Rattle.bencode.proofs.Ranges.{natural-machine}
 use Rattle.desk.specs.Watch.{empty, filtered, pickIds}
 use Rattle.desk.specs.Record.{watched}
 use Rattle.desk.proofs.ListParts.{itemParts, item-parts, item-put, item-passed}

@@ -8,7 +8,7 @@ use native.Mathlib.Omega.{arith}
 use lib.ListN.{length, replicate}
 use Rattle.bencode.specs.Value.{encodeAll}
 use Rattle.bencode.proofs.PutLaws.{Writing, start, next-put, finish}
-use Rattle.ipc.proofs.Ranges.{natural-machine}
+use Rattle.bencode.proofs.Ranges.{natural-machine}
 use Rattle.desk.specs.Watch.{isId}
 use Rattle.desk.specs.Command.{values, idList}
 use Rattle.desk.proofs.CommandLaws.{one-id}

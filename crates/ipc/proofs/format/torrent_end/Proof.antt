@@ -6,7 +6,7 @@ use native.Mathlib.Omega.{arith}
 use borrow.Author.Needs.{needs}
 use Rattle.bencode.specs.declared.fault.Walk.{Walk}
 use Rattle.bencode.proofs.NumeralLaws.{inside}
-use Rattle.ipc.specs.Ascii.{ascii}
+use Rattle.bencode.specs.Ascii.{ascii}
 use Rattle.ipc.proofs.FormatLaws.{torrent-other, torrent-no-id, torrent-bad, torrent-good}
 use Rattle.ipc.proofs.format.torrent_end.Statement.{statement}
 use Rattle.ipc.proofs.format.torrent_end.Tie as tie

@@ -5,7 +5,7 @@ use mathlib.Core.Path.{refl}
 use native.Mathlib.Omega.{arith}
 use borrow.Author.Needs.{needs}
 use borrow.Author.Tests.{le-leb, lt-leb}
-use Rattle.ipc.proofs.Ranges.{natural-machine}
+use Rattle.bencode.proofs.Ranges.{natural-machine}
 use Rattle.ipc.proofs.greeting.is_range.Statement.{statement}
 use Rattle.ipc.proofs.greeting.is_range.Tie as tie
 

@@ -6,7 +6,7 @@ use borrow.Author.Needs.{needs}
 use Prim.Native.Nat.{_+_}
 use Rattle.bencode.specs.declared.integer.Number.{Number}
 use Rattle.bencode.proofs.NumeralLaws.{inside}
-use Rattle.ipc.specs.Ascii.{ascii}
+use Rattle.bencode.specs.Ascii.{ascii}
 use Rattle.ipc.specs.Handshake.{between, integerOf}
 use Rattle.ipc.proofs.HandshakeLaws.{versions-dictionary, versions-integer}
 use Rattle.ipc.proofs.handshake.versions_at.Statement.{statement}

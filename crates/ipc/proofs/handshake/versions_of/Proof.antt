@@ -3,7 +3,7 @@
 use mathlib.Core.Path.{sym, ap, _∙_}
 use borrow.Author.Needs.{needs}
 use Rattle.bencode.specs.declared.entry.Entry.{Entry}
-use Rattle.ipc.specs.Ascii.{ascii}
+use Rattle.bencode.specs.Ascii.{ascii}
 use Rattle.ipc.specs.Handshake.{entryVersions, dictionaryVersions}
 use Rattle.ipc.proofs.handshake.versions_of.Statement.{statement}
 use Rattle.ipc.proofs.handshake.versions_of.Tie as tie

@@ -12,7 +12,7 @@ use Rattle.bencode.specs.Value.{integer, encode}
 use Rattle.ipc.specs.declared.keys.Class.{Class}
 use Rattle.ipc.specs.declared.write.Given.{Given}
 use Rattle.ipc.specs.Write.{encodeGiven}
-use Rattle.ipc.proofs.Ranges.{machine, same}
+use Rattle.bencode.proofs.Ranges.{machine, same}
 use Rattle.ipc.proofs.write.put_value.Statement.{statement}
 use Rattle.ipc.proofs.write.put_value.Tie as tie
 

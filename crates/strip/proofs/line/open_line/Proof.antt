@@ -4,7 +4,7 @@ use mathlib.Core.List.{[], _∷_}
 use native.Mathlib.Omega.{arith}
 use Rattle.bencode.specs.Numeral.{decimal}
 use Rattle.bencode.proofs.PutLaws.{Writing, next-put}
-use Rattle.ipc.specs.Ascii.{ascii}
+use Rattle.bencode.specs.Ascii.{ascii}
 use Rattle.strip.specs.Line.{newline, openText, blank}
 use Rattle.strip.proofs.LineLaws.{openParts, open-start, line-done}
 use borrow.Author.Needs.{needs}
