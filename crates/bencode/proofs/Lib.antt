@@ -23,7 +23,6 @@ pub mod Unique
 pub mod Lookups
 pub mod FieldLaws
 pub mod Grammar
-pub mod Levels
 pub mod FaultCodes
 pub mod JudgeLaws
 pub mod FirstBytes

@@ -4,6 +4,7 @@ use Prim.Native.Nat.{ℕ, _+_}
 use mathlib.Core.Bool.{cond}
 use mathlib.Core.List.{List}
 use lib.Dec.{eqb}
+use lib.IntN.{ℤ}
 use Rattle.bencode.specs.declared.entry.Entry.{Entry}
 use Rattle.bencode.specs.declared.field.Field.{Field}
 use Rattle.bencode.specs.declared.integer.Number.{Number}
@@ -35,3 +36,11 @@ entryField s Entry.Missing = Field.Missing
 -- the value of a key in the dictionary whose entries start at an offset
 unfoldable pub fieldOf : List ℕ → List ℕ → ℕ → Field
 fieldOf s key at = entryField s (entryAt s key at)
+
+-- what is made of an integer and the offset after it; `other` for any other field
+abbrev pub ifInteger : {A : Type 0} → A → (ℤ → ℕ → A) → Field → A
+ifInteger other make (Field.Integer z end) = make z end
+ifInteger other make (Field.Text start end) = other
+ifInteger other make (Field.List at) = other
+ifInteger other make (Field.Dictionary at) = other
+ifInteger other make Field.Missing = other

@@ -96,3 +96,19 @@ lookupAt key no-entry at = Entry.Missing
 lookupAt key (entry k v es) at =
     let rest = lookupAt key es (at + length (encodeString k) + length (encode v)) in
     cond (same k key) (Entry.At (at + length (encodeString k))) rest
+
+-- what a value has under a key: nothing where it is no dictionary, or is not there itself
+abbrev pub under : List ℕ → Found → Found
+under key (found (integer z)) = missing
+under key (found (string text)) = missing
+under key (found (list vs)) = missing
+under key (found (dictionary es)) = lookup key es
+under key missing = missing
+
+-- what is made of an integer that was found; `other` for any other value, and for none
+abbrev pub foundInteger : {A : Type 0} → A → (ℤ → A) → Found → A
+foundInteger other make (found (integer z)) = make z
+foundInteger other make (found (string text)) = other
+foundInteger other make (found (list vs)) = other
+foundInteger other make (found (dictionary es)) = other
+foundInteger other make missing = other

@@ -9,7 +9,7 @@ use Rattle.bencode.specs.declared.string.Text.{Text}
 use Rattle.bencode.specs.declared.fault.Walk.{Walk}
 use Rattle.bencode.specs.declared.profile.Profile.{Profile}
 use Rattle.bencode.specs.Bytes.{letterD, letterE, letterL, byteAt, part}
-use Rattle.bencode.specs.Loop.{Step, next, done, repeatFrom}
+use Rattle.bencode.specs.Loop.{Step, next, done, repeatFrom, itemStep}
 use Rattle.bencode.specs.Fault.{fault}
 use Rattle.bencode.specs.String.{stringAt}
 use Rattle.bencode.specs.Scalar.{scalarAt}
@@ -23,7 +23,7 @@ onward (Walk.Fault f) x = done (Walk.Fault f)
 
 -- a step of a list: its end, or one value
 abbrev pub listStep : (ℕ → Walk) → List ℕ → ℕ → Unit {0} → Step (Unit {0}) Walk
-listStep value s at x = cond (eqb (byteAt s at) letterE) (done (Walk.End (at + 1))) (onward (value at) x)
+listStep value s = itemStep s (λ end x. Walk.End end) (λ at x. onward (value at) x)
 
 -- the offset after the list whose values start at an offset, where `value` walks one
 unfoldable pub listFrom : (ℕ → Walk) → List ℕ → ℕ → Walk

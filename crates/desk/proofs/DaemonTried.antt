@@ -12,18 +12,19 @@ use Rattle.bencode.specs.Skip.{skipFrom}
 use Rattle.bencode.specs.Item.{itemAt}
 use Rattle.bencode.specs.Walk.{listFrom, dictionaryFrom, valueAt, payloadAt}
 use Rattle.bencode.specs.Entry.{entryAt}
+use Rattle.bencode.specs.Field.{fieldAt, fieldOf}
 use Rattle.bencode.specs.Ascii.{ascii}
 use Rattle.ipc.specs.Hex.{hexDigit}
 use Rattle.ipc.specs.Header.{hexValue, headerIn, readHeader, sized}
 use Rattle.ipc.specs.Ids.{tagOf, torrentIdOf}
 use Rattle.ipc.specs.Keys.{listed as keys, numberFrom, keyNumber, classOf}
-use Rattle.ipc.specs.Format.{idEnd, torrentEnd, itemEnd, listPart, formatted}
+use Rattle.ipc.specs.Format.{idEnd, torrentEnd, itemEnd, itemsEnd, listPart, formatted}
 use Rattle.ipc.specs.Message.{tailAt, messageReading}
-use Rattle.ipc.specs.Handshake.{rangeOf, integerOf, versionsAt, dictionaryVersions, handshakeReading}
+use Rattle.ipc.specs.Handshake.{rangeOf, rangeAt, dictionaryVersions, handshakeReading}
 use Rattle.ipc.specs.Frame.{payloadReading, lengthReading, frameReading, readFrame}
 use Rattle.desk.specs.Machine.{listed, obey, idsFrom, idsIn, limitCommand, idsCommand, contentCommand, commandIn, obeying, takes, handed}
 use Rattle.desk.specs.Tries.{runningOf, seen, before, tries, DaemonTried}
 
 pub daemon-tried : DaemonTried
-unfolding tries before seen runningOf handed takes obeying commandIn contentCommand idsCommand limitCommand idsIn idsFrom obey listed frameReading skipFrom itemAt readFrame lengthReading payloadReading ascii hexValue headerIn readHeader sized hexDigit tagOf torrentIdOf keys numberFrom keyNumber classOf entryAt idEnd torrentEnd itemEnd listPart formatted tailAt messageReading rangeOf integerOf versionsAt dictionaryVersions handshakeReading payloadAt valueAt scalarAt integerAt integerFrom numeralAt digits stringAt listFrom dictionaryFrom repeat keyFault isUsed isAbove same less
+unfolding tries before seen runningOf handed takes obeying commandIn contentCommand idsCommand limitCommand idsIn idsFrom obey listed frameReading skipFrom itemAt readFrame lengthReading payloadReading ascii hexValue headerIn readHeader sized hexDigit tagOf torrentIdOf keys numberFrom keyNumber classOf entryAt fieldAt fieldOf idEnd torrentEnd itemEnd itemsEnd listPart formatted tailAt messageReading rangeOf rangeAt dictionaryVersions handshakeReading payloadAt valueAt scalarAt integerAt integerFrom numeralAt digits stringAt listFrom dictionaryFrom repeat keyFault isUsed isAbove same less
 daemon-tried = refl

@@ -20,7 +20,7 @@ use Rattle.bencode.specs.Skip.{skipFrom}
 use Rattle.bencode.specs.Item.{itemAt}
 use Rattle.bencode.specs.Walk.{listFrom, dictionaryFrom, valueAt, payloadAt}
 use Rattle.bencode.specs.Entry.{entryAt}
-use Rattle.ipc.specs.Ascii.{ascii}
+use Rattle.bencode.specs.Ascii.{ascii}
 use Rattle.ipc.specs.Hex.{hexDigit, hexHeader, hexIn}
 use Rattle.ipc.specs.Header.{hexValue, headerIn, readHeader, sized}
 use Rattle.ipc.specs.Ids.{tagOf, torrentIdOf}

@@ -14,10 +14,9 @@ use lib.Seq.{length-take-le, take-append-seam, drop-at}
 use Rattle.bencode.specs.declared.fault.Walk.{Walk}
 use Rattle.bencode.specs.declared.profile.Profile.{Profile}
 use Rattle.bencode.specs.Bytes.{byteAt, part, Begins}
-use Rattle.bencode.specs.Fault.{fault}
-use Rattle.bencode.specs.Walk.{valueAt, whole, payloadAt}
 use Rattle.bencode.specs.Depth.{largestDepth}
-use Rattle.bencode.specs.Value.{Value, integer, string, list, dictionary, encode}
+use Rattle.bencode.specs.Walk.{payloadAt}
+use Rattle.bencode.specs.Value.{Value, integer, string, list, dictionary, encode, WellFormed}
 use Rattle.bencode.proofs.Grammar.{accepts-exactly as payload-accepts}
 use Rattle.bencode.proofs.JudgeLaws.{walked-whole}
 use Rattle.ipc.specs.declared.header.Header.{Header}
@@ -29,7 +28,6 @@ use Rattle.ipc.specs.Meaning.{meaning}
 use Rattle.ipc.specs.Demands.{HexDigits, none, more, hexFrom, Framed, AnswersMeaning, AcceptsExactly, Headed, AnswerRow, framed, short-header, short-payload, no-digit, over-protocol, over-limit, payload-fault, AnswersByRow}
 use Rattle.ipc.proofs.HeaderLaws.{in-some, in-none}
 use Rattle.ipc.proofs.FrameLaws.{payload-fault as fault-payload, payload-dictionary, payload-list, payload-scalar, length-short, length-there, sized-fits, sized-over-limit, sized-over-protocol, frame-no-digit, frame-short, frame-sized}
-use Rattle.ipc.proofs.Means.{Good, good-list, good-dictionary}
 use Rattle.ipc.proofs.Messages.{message-means}
 use Rattle.bencode.specs.Key.{isFaultCode}
 use Rattle.bencode.proofs.Order.{clash}
@@ -38,26 +36,29 @@ use Rattle.bencode.proofs.Lookups.{starts, items-begin, entries-begin}
 use Rattle.ipc.proofs.Handshakes.{handshake-means}
 
 -- ---- payloads
--- the answer to the encoding of a well-formed value is what it means
-pub payload-means : (v : Value) → Good v → answerOf (payloadReading (encode v)) ≡ meaning (8 + length (encode v)) v
-payload-means v h = go v h (payload-accepts Profile.Loose (encode v) .1 (v, h, refl)) (record { rest = []; is = sym (append-nil (encode v)); ends = omega arith })
-  where
-    go : (v : Value) → Good v → payloadAt Profile.Loose (encode v) ≡ Walk.End (length (encode v)) → Begins (encode v) 0 (encode v) (length (encode v)) → answerOf (payloadReading (encode v)) ≡ meaning (8 + length (encode v)) v
-    go (integer z) h e b =
-        let p = encode (integer z) in
-        let first : byteAt (encode (integer z)) 0 ≡ 105 = starts (integer z) p 0 (length p) b in
-        ap answerOf (sym (payload-scalar p (length p) e (λ q. omega arith) (λ q. omega arith)))
-    go (string text) h e b =
-        let p = encode (string text) in
-        let first : byteAt (encode (string text)) 0 ≤ 57 = starts (string text) p 0 (length p) b .1 in
-        ap answerOf (sym (payload-scalar p (length p) e (λ q. omega arith) (λ q. omega arith)))
-    go (list vs) h e b =
-        let p = encode (list vs) in
-        let first : byteAt (encode (list vs)) 0 ≡ 108 = starts (list vs) p 0 (length p) b in
-        ap answerOf (sym (payload-list p (length p) e (λ q. omega arith) first)) ∙ message-means p vs (good-list vs h) (items-begin p 0 (length p) vs b)
-    go (dictionary es) h e b =
-        let p = encode (dictionary es) in
-        ap answerOf (sym (payload-dictionary p (length p) e (starts (dictionary es) p 0 (length p) b))) ∙ handshake-means p es (length p) (good-dictionary es h) (entries-begin p 0 (length p) es b)
+-- the answer to the encoding of a well-formed value is what it means. Over any number of levels: with 16 antt writes all of them out
+walked-means : (levels : ℕ) (v : Value) → WellFormed Profile.Loose levels v → payloadAt Profile.Loose (encode v) ≡ Walk.End (length (encode v)) → Begins (encode v) 0 (encode v) (length (encode v))
+    → answerOf (payloadReading (encode v)) ≡ meaning (8 + length (encode v)) v
+walked-means levels (integer z) h e b =
+    let p = encode (integer z) in
+    let first : byteAt (encode (integer z)) 0 ≡ 105 = starts (integer z) p 0 (length p) b in
+    ap answerOf (sym (payload-scalar p (length p) e (λ q. omega arith) (λ q. omega arith)))
+walked-means levels (string text) h e b =
+    let p = encode (string text) in
+    let first : byteAt (encode (string text)) 0 ≤ 57 = starts (string text) p 0 (length p) b .1 in
+    ap answerOf (sym (payload-scalar p (length p) e (λ q. omega arith) (λ q. omega arith)))
+walked-means zero (list vs) h e b = absurd h
+walked-means (suc levels) (list vs) h e b =
+    let p = encode (list vs) in
+    let first : byteAt (encode (list vs)) 0 ≡ 108 = starts (list vs) p 0 (length p) b in
+    ap answerOf (sym (payload-list p (length p) e (λ q. omega arith) first)) ∙ message-means Profile.Loose levels p vs h (items-begin p 0 (length p) vs b)
+walked-means zero (dictionary es) h e b = absurd h
+walked-means (suc levels) (dictionary es) h e b =
+    let p = encode (dictionary es) in
+    ap answerOf (sym (payload-dictionary p (length p) e (starts (dictionary es) p 0 (length p) b))) ∙ handshake-means Profile.Loose p levels es (length p) h (entries-begin p 0 (length p) es b)
+
+pub payload-means : (v : Value) → WellFormed Profile.Loose largestDepth v → answerOf (payloadReading (encode v)) ≡ meaning (8 + length (encode v)) v
+payload-means v h = walked-means largestDepth v h (payload-accepts Profile.Loose (encode v) .1 (v, h, refl)) (record { rest = []; is = sym (append-nil (encode v)); ends = omega arith })
 
 -- ---- headers
 header-before : (ds rest : List ℕ) (k i v : ℕ) → length ds ≡ k → HexDigits ds → headerIn k i v (ds ++ rest) ≡ Header.Length (hexFrom v ds)

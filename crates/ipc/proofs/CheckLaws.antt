@@ -10,10 +10,9 @@ use lib.IntN.{ℤ}
 use lib.ListN.{length}
 use mir.Syntax.{w64}
 use mir.Val.{SFits}
-use Rattle.bencode.specs.declared.fault.Fault.{Fault}
-use Rattle.bencode.specs.declared.fault.Walk.{Walk}
 use Rattle.bencode.specs.Bytes.{byteAt}
 use Rattle.ipc.specs.declared.format.Items.{Items}
+use Rattle.ipc.specs.declared.format.OptionalEnd.{OptionalEnd}
 use Rattle.ipc.specs.declared.keys.Class.{Class}
 use Rattle.ipc.specs.declared.write.Given.{Given}
 use Rattle.ipc.specs.Format.{itemsEnd}
@@ -27,13 +26,13 @@ module _ (s : List ℕ) where
   ids-other b = rw (ne-eqb (byteAt s 0) 108 b) refl
 
   module _ (b : byteAt s 0 ≡ 108) where
-    pub ids-end : (end : ℕ) → itemsEnd Items.Ids s 1 ≡ Walk.End end → eqb end (length s) ≡ isIdList s
+    pub ids-end : (end : ℕ) → itemsEnd Items.Ids s 1 ≡ OptionalEnd.End end → eqb end (length s) ≡ isIdList s
     unfolding isIdList
     ids-end end e = rw (eq-eqb (byteAt s 0) 108 b, e) refl
 
-    pub ids-fault : (f : Fault) → itemsEnd Items.Ids s 1 ≡ Walk.Fault f → false ≡ isIdList s
+    pub ids-off : itemsEnd Items.Ids s 1 ≡ OptionalEnd.None → false ≡ isIdList s
     unfolding isIdList
-    ids-fault f e = rw (eq-eqb (byteAt s 0) 108 b, e) refl
+    ids-off e = rw (eq-eqb (byteAt s 0) 108 b, e) refl
 
 -- an integer that is handed in
 pub fits-integer : (class : Class) (given : Given) (s : List ℕ) (z : ℤ) → SFits w64 z → given ≡ Given.Integer z → integerFits class (machine z) ≡ valueFits class given s

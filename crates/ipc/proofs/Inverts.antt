@@ -10,7 +10,7 @@ use lib.Dec.{leb}
 use lib.IntN.{ℤ, pos, negsuc, natAbs}
 use lib.ListN.{length, getD}
 use Rattle.bencode.specs.Bytes.{same, letterL, letterE}
-use Rattle.bencode.specs.Value.{Value, integer, string, list, dictionary, Values, no-value, value, encodeString, encode, encodeAll, All, lookup}
+use Rattle.bencode.specs.Value.{Value, integer, string, list, dictionary, Values, no-value, value, encodeString, encode, encodeAll, lookup}
 use Rattle.bencode.proofs.Encodings.{values-text}
 use Rattle.bencode.proofs.Order.{clash, same-eq}
 use Rattle.ipc.specs.declared.ids.OptionalTag.{OptionalTag}
@@ -25,7 +25,6 @@ use Rattle.ipc.specs.Ids.{largestTag, tagOf}
 use Rattle.ipc.specs.Keys.{keyText, Listed, listed, unlisted, numberFrom, keyNumber, classOf, isWritten}
 use Rattle.ipc.specs.Meaning.{judged, answered, taggedOf, thirdOf, listOf, versionsOf, versionsAnswer, meaning}
 use Rattle.ipc.specs.Write.{encodeTag}
-use Rattle.ipc.proofs.Means.{Good, good-list}
 
 -- ---- keys
 -- a text that has a number among keys is the name of the key with that number
@@ -100,7 +99,6 @@ pub record Meant (v : Value) (used : ℕ) (a : Answer) : Type 0 where
   pub tag : ℕ
   pub held : MessageValue
   pub spelt : encode v ≡ spelling key content tag
-  pub formed : Good content
   pub small : tag ≤ largestTag
   pub fits : judged (classOf (keyNumber key)) (1 + length (encodeString key)) content ≡ Checked.Value held
   pub is : accepted used (keyNumber key) tag (contentOf held) ≡ a
@@ -124,33 +122,33 @@ module _ (used : ℕ) (a : Answer) (code : a .code ≡ 0) (kind : a .kind ≡ me
   refusal : {P : Type 0} (c at : ℕ) → (c ≡ 0 → ⊥) → refused c at ≡ a → P
   refusal c at h e = absurd (h (ap (λ (x : Answer). x .code) e ∙ code))
 
-  value-meant : (v : Value) (key : List ℕ) (x : Value) (tag : OptionalTag) → encode v ≡ spelling key x (tagNumber tag) → Good x → tagNumber tag ≤ largestTag
+  value-meant : (v : Value) (key : List ℕ) (x : Value) (tag : OptionalTag) → encode v ≡ spelling key x (tagNumber tag) → tagNumber tag ≤ largestTag
       → (c : Checked) → judged (classOf (keyNumber key)) (1 + length (encodeString key)) x ≡ c → answered used (keyNumber key) tag c ≡ a → Meant v used a
-  value-meant v key x tag s g l (Checked.Value h) q e = record { key = key; content = x; tag = tagNumber tag; held = h; spelt = s; formed = g; small = l; fits = q; is = e }
-  value-meant v key x tag s g l Checked.Off q e = let n : _≡_ {A = ℕ} 22 0 = ap (λ (y : Answer). y .code) e ∙ code in absurd (omega arith)
+  value-meant v key x tag s l (Checked.Value h) q e = record { key = key; content = x; tag = tagNumber tag; held = h; spelt = s; small = l; fits = q; is = e }
+  value-meant v key x tag s l Checked.Off q e = let n : _≡_ {A = ℕ} 22 0 = ap (λ (y : Answer). y .code) e ∙ code in absurd (omega arith)
 
-  tag-meant : (key : List ℕ) (x : Value) (z : ℤ) → Good x → (o : OptionalTag) → tagOf z ≡ o → taggedOf used key x o ≡ a → Meant (list (value (string key) (value x (value (integer z) no-value)))) used a
-  tag-meant key x z g OptionalTag.None q e = refusal 20 0 (λ n. omega arith) e
-  tag-meant key x z g (OptionalTag.Tag t) q e =
+  tag-meant : (key : List ℕ) (x : Value) (z : ℤ) (o : OptionalTag) → tagOf z ≡ o → taggedOf used key x o ≡ a → Meant (list (value (string key) (value x (value (integer z) no-value)))) used a
+  tag-meant key x z OptionalTag.None q e = refusal 20 0 (λ n. omega arith) e
+  tag-meant key x z (OptionalTag.Tag t) q e =
       let d = tag-tells z t q in
-      value-meant (list (value (string key) (value x (value (integer z) no-value)))) key x (OptionalTag.Tag t) (tagged-text key x z (t .0) d) g (d .high) (judged (classOf (keyNumber key)) (1 + length (encodeString key)) x) refl e
+      value-meant (list (value (string key) (value x (value (integer z) no-value)))) key x (OptionalTag.Tag t) (tagged-text key x z (t .0) d) (d .high) (judged (classOf (keyNumber key)) (1 + length (encodeString key)) x) refl e
 
-  third-meant : (key : List ℕ) (x : Value) (vs : Values) → Good x → thirdOf used key x vs ≡ a → Meant (list (value (string key) (value x vs))) used a
-  third-meant key x no-value g e =
-      value-meant (list (value (string key) (value x no-value))) key x OptionalTag.None (untagged-text key x) g (omega arith) (judged (classOf (keyNumber key)) (1 + length (encodeString key)) x) refl e
-  third-meant key x (value (integer z) no-value) g e = tag-meant key x z g (tagOf z) refl e
-  third-meant key x (value (integer z) (value y vs)) g e = refusal 20 0 (λ n. omega arith) e
-  third-meant key x (value (string text) vs) g e = refusal 20 0 (λ n. omega arith) e
-  third-meant key x (value (list us) vs) g e = refusal 20 0 (λ n. omega arith) e
-  third-meant key x (value (dictionary es) vs) g e = refusal 20 0 (λ n. omega arith) e
+  third-meant : (key : List ℕ) (x : Value) (vs : Values) → thirdOf used key x vs ≡ a → Meant (list (value (string key) (value x vs))) used a
+  third-meant key x no-value e =
+      value-meant (list (value (string key) (value x no-value))) key x OptionalTag.None (untagged-text key x) (omega arith) (judged (classOf (keyNumber key)) (1 + length (encodeString key)) x) refl e
+  third-meant key x (value (integer z) no-value) e = tag-meant key x z (tagOf z) refl e
+  third-meant key x (value (integer z) (value y vs)) e = refusal 20 0 (λ n. omega arith) e
+  third-meant key x (value (string text) vs) e = refusal 20 0 (λ n. omega arith) e
+  third-meant key x (value (list us) vs) e = refusal 20 0 (λ n. omega arith) e
+  third-meant key x (value (dictionary es) vs) e = refusal 20 0 (λ n. omega arith) e
 
-  list-meant : (vs : Values) → All Good vs → listOf used vs ≡ a → Meant (list vs) used a
-  list-meant no-value g e = refusal 20 0 (λ n. omega arith) e
-  list-meant (value (integer z) vs) g e = refusal 20 0 (λ n. omega arith) e
-  list-meant (value (string key) no-value) g e = refusal 20 0 (λ n. omega arith) e
-  list-meant (value (string key) (value x vs)) g e = third-meant key x vs (g .1 .0) e
-  list-meant (value (list us) vs) g e = refusal 20 0 (λ n. omega arith) e
-  list-meant (value (dictionary es) vs) g e = refusal 20 0 (λ n. omega arith) e
+  list-meant : (vs : Values) → listOf used vs ≡ a → Meant (list vs) used a
+  list-meant no-value e = refusal 20 0 (λ n. omega arith) e
+  list-meant (value (integer z) vs) e = refusal 20 0 (λ n. omega arith) e
+  list-meant (value (string key) no-value) e = refusal 20 0 (λ n. omega arith) e
+  list-meant (value (string key) (value x vs)) e = third-meant key x vs e
+  list-meant (value (list us) vs) e = refusal 20 0 (λ n. omega arith) e
+  list-meant (value (dictionary es) vs) e = refusal 20 0 (λ n. omega arith) e
 
   greeting-none : {P : Type 0} (o : OptionalVersions) → versionsAnswer used o ≡ a → P
   greeting-none OptionalVersions.None e = refusal 21 0 (λ n. omega arith) e
@@ -160,8 +158,8 @@ module _ (used : ℕ) (a : Answer) (code : a .code ≡ 0) (kind : a .kind ≡ me
       absurd (omega arith)
 
   -- a value that means an accepted message is one of the grammar's
-  pub inverts : (v : Value) → Good v → meaning used v ≡ a → Meant v used a
-  inverts (integer z) g e = refusal 20 0 (λ n. omega arith) e
-  inverts (string text) g e = refusal 20 0 (λ n. omega arith) e
-  inverts (list vs) g e = list-meant vs (good-list vs g) e
-  inverts (dictionary es) g e = greeting-none (versionsOf (lookup (ascii "version") es)) e
+  pub inverts : (v : Value) → meaning used v ≡ a → Meant v used a
+  inverts (integer z) e = refusal 20 0 (λ n. omega arith) e
+  inverts (string text) e = refusal 20 0 (λ n. omega arith) e
+  inverts (list vs) e = list-meant vs e
+  inverts (dictionary es) e = greeting-none (versionsOf (lookup (ascii "version") es)) e

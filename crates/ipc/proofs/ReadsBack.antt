@@ -12,6 +12,7 @@ use lib.IntN.{ℤ, pos}
 use lib.ListN.{length, getD, replicate, List·getD-eq-default, drop}
 use Rattle.bencode.specs.declared.profile.Profile.{Profile}
 use Rattle.bencode.specs.Bytes.{same, letterE, part as bytesFrom}
+use Rattle.bencode.specs.Depth.{largestDepth}
 use Rattle.bencode.specs.Integer.{InRange}
 use Rattle.bencode.specs.Key.{isUsed, keyFault}
 use Rattle.bencode.specs.Value.{Value, integer, string, list, Values, no-value, value, encodeString, encode, WellFormed}
@@ -40,7 +41,6 @@ use Rattle.ipc.proofs.Accepts.{answers-meaning}
 use Rattle.ipc.proofs.HexLaws.{header-length, header-digits, from-header}
 use Rattle.ipc.proofs.IdLists.{id-list-formed, id-list-exactly}
 use Rattle.ipc.proofs.Inverts.{and-left, and-right, spelling, untagged-text, tagged-text}
-use Rattle.ipc.proofs.Means.{Good}
 use Rattle.ipc.proofs.WritesBack.{Stands, text-stands, stands-in, payload-again}
 use Rattle.ipc.proofs.OutcomeLaws.{frame-length}
 
@@ -219,7 +219,7 @@ values-formed levels key x g = (string-formed levels key, (g, tt))
 tagged-formed : (levels : ℕ) (key : List ℕ) (x : Value) (z : ℤ) → InRange z → WellFormed Profile.Loose levels x → WellFormed Profile.Loose (suc levels) (list (value (string key) (value x (value (integer z) no-value))))
 tagged-formed levels key x z f g = (string-formed levels key, (g, (integer-formed levels z f, tt)))
 
-message-formed : (key : List ℕ) (x : Value) (tag : ℕ) → tag ≤ largestTag → WellFormed Profile.Loose 15 x → Good (messageValue key x tag)
+message-formed : (key : List ℕ) (x : Value) (tag : ℕ) → tag ≤ largestTag → WellFormed Profile.Loose 15 x → WellFormed Profile.Loose largestDepth (messageValue key x tag)
 message-formed key x zero h g = values-formed 15 key x g
 message-formed key x (suc t) h g = tagged-formed 15 key x (pos (suc t)) (tag-fits (suc t) h) g
 
@@ -235,7 +235,7 @@ message-meant used key x (suc t) held h e = rw (tag-again (suc t) (omega arith) 
 
 -- ---- frames
 -- the frame of a well-formed value reads as what it means
-frame-reads : (v : Value) (a : Answer) (rest : List ℕ) → Good v → length (encode v) ≤ largestPayload → meaning (headerLength + length (encode v)) v ≡ a → readFrame (frameOf (encode v) ++ rest) ≡ a
+frame-reads : (v : Value) (a : Answer) (rest : List ℕ) → WellFormed Profile.Loose largestDepth v → length (encode v) ≤ largestPayload → meaning (headerLength + length (encode v)) v ≡ a → readFrame (frameOf (encode v) ++ rest) ≡ a
 unfolding frameOf
 frame-reads v a rest g small e =
     answers-meaning (frameOf (encode v) ++ rest) a (record {
@@ -309,7 +309,7 @@ ranged low high room n e = go (isRange low high) refl e
     go true q e = record { range = q; counted = fitted-counted (encode (handshakeValue low high)) room n e }
     go false q e = let z : _≡_ {A = ℕ} 0 1 = cc in absurd (omega arith)
 
-handshake-formed : (low high : ℕ) → isRange low high ≡ true → Good (handshakeValue low high)
+handshake-formed : (low high : ℕ) → isRange low high ≡ true → WellFormed Profile.Loose largestDepth (handshakeValue low high)
 unfolding keyFault isUsed same ascii
 handshake-formed low high e =
     let up : leb low high && leb high largestVersion ≡ true = and-right (leb 1 low) (leb low high && leb high largestVersion) e in

@@ -18,9 +18,10 @@ use Rattle.ipc.specs.Header.{hexValue, headerIn, readHeader, sized}
 use Rattle.ipc.specs.Ids.{tagOf, torrentIdOf}
 use Rattle.ipc.specs.Keys.{listed, numberFrom, keyNumber, keyText, classOf}
 use Rattle.bencode.specs.Entry.{entryAt}
-use Rattle.ipc.specs.Format.{idEnd, torrentEnd, itemEnd, listPart, formatted}
+use Rattle.bencode.specs.Field.{fieldAt, fieldOf}
+use Rattle.ipc.specs.Format.{idEnd, torrentEnd, itemEnd, itemsEnd, listPart, formatted}
 use Rattle.ipc.specs.Message.{tailAt, messageReading}
-use Rattle.ipc.specs.Handshake.{rangeOf, integerOf, versionsAt, dictionaryVersions, handshakeReading}
+use Rattle.ipc.specs.Handshake.{rangeOf, rangeAt, dictionaryVersions, handshakeReading}
 use Rattle.ipc.specs.Frame.{payloadReading, lengthReading, frameReading, readFrame}
 use Rattle.ipc.specs.Greeting.{handshakePayload}
 use Rattle.ipc.specs.Hex.{hexDigit, hexIn, hexHeader}
@@ -28,7 +29,7 @@ use Rattle.ipc.specs.Write.{encodeGiven, encodeTag, payloadOf, frameOf}
 use Rattle.ipc.specs.Tries.{tries, FramesTried, FramesWritten}
 
 pub frames-tried : FramesTried
-unfolding tries frameReading skipFrom itemAt readFrame lengthReading payloadReading ascii hexValue headerIn readHeader sized tagOf torrentIdOf listed numberFrom keyNumber classOf entryAt idEnd torrentEnd itemEnd listPart formatted tailAt messageReading rangeOf integerOf versionsAt dictionaryVersions handshakeReading payloadAt valueAt scalarAt integerAt integerFrom numeralAt digits stringAt listFrom dictionaryFrom repeat keyFault isUsed isAbove same less
+unfolding tries frameReading skipFrom itemAt readFrame lengthReading payloadReading ascii hexValue headerIn readHeader sized tagOf torrentIdOf listed numberFrom keyNumber classOf entryAt fieldAt fieldOf idEnd torrentEnd itemEnd itemsEnd listPart formatted tailAt messageReading rangeOf rangeAt dictionaryVersions handshakeReading payloadAt valueAt scalarAt integerAt integerFrom numeralAt digits stringAt listFrom dictionaryFrom repeat keyFault isUsed isAbove same less
 frames-tried = refl
 
 pub frames-written : FramesWritten

@@ -13,7 +13,7 @@ use Rattle.bencode.specs.Value.{encode}
 use Rattle.ipc.specs.declared.write.Given.{Given}
 use Rattle.ipc.specs.declared.write.Written.{Written}
 use Rattle.ipc.specs.Answer.{Answer, message, integer, refused, accepted}
-use Rattle.ipc.specs.Ascii.{ascii}
+use Rattle.bencode.specs.Ascii.{ascii}
 use Rattle.ipc.specs.Frame.{readFrame}
 use Rattle.ipc.specs.Greeting.{handshakePayload, handshakeWritten}
 use Rattle.ipc.specs.Header.{headerLength, largestPayload}

@@ -4,40 +4,38 @@ use Prim.Native.Nat.{ℕ, zero, suc, _+_, _-_, _≤_}
 use mathlib.Core.Logic.{inl}
 use mathlib.Core.Path.{_≡_, refl, sym, ap, subst, _∙_}
 use mathlib.Core.Bool.{Bool, true, false, cond, _&&_}
-use mathlib.Core.List.{List, [], _∷_, _++_, map, flatten, append-nil, append-assoc}
+use mathlib.Core.List.{List, [], _∷_, _++_, map, flatten, append-assoc}
 use native.Mathlib.Omega.{arith}
-use borrow.Author.Tests.{eq-eqb, le-leb}
+use borrow.Author.Tests.{le-leb}
 use lib.IntN.{ℤ}
 use lib.ListN.{length, take, drop, getD, length-append}
 use lib.Seq.{take-at, drop-at}
-use Rattle.bencode.specs.declared.fault.Walk.{Walk}
 use Rattle.bencode.specs.Bytes.{letterE, letterL, Begins}
 use Rattle.bencode.specs.Numeral.{decimal}
 use Rattle.bencode.specs.Value.{Value, integer, string, list, dictionary, Values, encodeString, encode}
 use Rattle.bencode.proofs.BeginsLaws.{part-begins}
-use Rattle.bencode.proofs.Lookups.{reads-string, items-begin}
+use Rattle.bencode.proofs.Lookups.{reads-string}
 use Rattle.bencode.proofs.Order.{clash}
 use Rattle.ipc.specs.declared.format.Checked.{Checked}
-use Rattle.ipc.specs.declared.format.Items.{Items}
 use Rattle.ipc.specs.declared.keys.Class.{Class}
 use Rattle.ipc.specs.declared.reading.Value.{Value as MessageValue}
 use Rattle.ipc.specs.declared.write.Given.{Given}
 use Rattle.ipc.specs.declared.write.Written.{Written}
 use Rattle.ipc.specs.Answer.{Answer, Content, accepted, contentOf}
-use Rattle.ipc.specs.Format.{itemsEnd, largestPort}
+use Rattle.ipc.specs.Format.{largestPort}
 use Rattle.ipc.specs.Header.{headerLength, largestPayload}
 use Rattle.ipc.specs.Hex.{hexHeader, upper, upperHeader}
 use Rattle.bencode.specs.Integer.{within}
 use Rattle.ipc.specs.Ids.{largestTag}
 use Rattle.ipc.specs.Keys.{keyText, Listed, listed, unlisted, keyNumber, classOf, isWritten}
 use Rattle.ipc.specs.Meaning.{isId, every, wholeAt, asInteger, asText, asList, judged}
-use Rattle.ipc.specs.Write.{isIdList, integerFits, valueFits, encodeGiven, encodeTag, payloadOf, frameOf, writeAnswer, messageFault}
+use Rattle.ipc.specs.Write.{integerFits, valueFits, encodeGiven, encodeTag, payloadOf, frameOf, writeAnswer, messageFault}
 use Rattle.ipc.specs.Demands.{HexDigits, hexFrom, Framed, givenOf, bytesOf, WritesBack}
 use Rattle.ipc.proofs.Accepts.{accepts-exactly}
 use Rattle.ipc.proofs.HexLaws.{header-from}
 use Rattle.ipc.proofs.OutcomeLaws.{fitted-count}
 use Rattle.ipc.proofs.Inverts.{key-named, written-listed, spelling, Meant, inverts}
-use Rattle.ipc.proofs.Means.{Good, Judge, good-list, items-mean}
+use Rattle.ipc.proofs.IdLists.{id-list-exactly}
 
 -- ---- keys that are written have no format of a list but that of torrent IDs
 abbrev allowed : Class → Bool
@@ -104,16 +102,6 @@ as-list ok at (integer z) h e = let n : _≡_ {A = ℕ} 0 1 = cc in absurd (omeg
 as-list ok at (string text) h e = let n : _≡_ {A = ℕ} 0 1 = cc in absurd (omega arith)
 as-list ok at (dictionary es) h e = let n : _≡_ {A = ℕ} 0 1 = cc in absurd (omega arith)
 
--- the encoding of a list of torrent IDs is a list of torrent IDs
-ids-listed : (vs : Values) → Good (list vs) → every isId vs ≡ true → isIdList (encode (list vs)) ≡ true
-unfolding isIdList encode
-ids-listed vs g e =
-    let p = encode (list vs) in
-    let b : Begins p 0 p (length p) = record { rest = []; is = sym (append-nil p); ends = omega arith } in
-    let j : Judge (every isId vs) (itemsEnd Items.Ids p 1) (length p) = items-mean p Items.Ids vs 1 (length p) (good-list vs g) (items-begin p 0 (length p) vs b) in
-    let w : itemsEnd Items.Ids p 1 ≡ Walk.End (length p) = subst (λ (t : Bool). Judge t (itemsEnd Items.Ids p 1) (length p)) e j in
-    rw w (eq-eqb (length p) (length p) refl)
-
 -- ---- a value, handed in as it was named, is in the format and written as it was
 record Again (f : List ℕ) (class : Class) (x : Value) (c : Content) : Type 0 where
   fits : valueFits class (givenOf c) (bytesOf f c) ≡ true
@@ -145,24 +133,23 @@ module _ (f : List ℕ) (at : ℕ) (x : Value) (h : MessageValue) where
       let s = text-stands f at text (subst (λ (y : Value). Stands f at y) p b) in
       rw (p, q) (record { fits = refl; same = ap encodeString s })
 
-  ids-again : Good x → Stands f at x → (vs : Values) → x ≡ list vs → every isId vs ≡ true → h ≡ wholeAt at (list vs) → Again f Class.IdList x (contentOf h)
+  ids-again : Stands f at x → (vs : Values) → x ≡ list vs → every isId vs ≡ true → h ≡ wholeAt at (list vs) → Again f Class.IdList x (contentOf h)
   unfolding valueFits encodeGiven
-  ids-again g b vs p ids q =
+  ids-again b vs p ids q =
       let c : Stands f at (list vs) = subst (λ (y : Value). Stands f at y) p b in
       let s : bytesOf f (contentOf (wholeAt at (list vs))) ≡ encode (list vs) = part-begins f (headerLength + at) (headerLength + at + length (encode (list vs))) (encode (list vs)) c in
-      let k : Good (list vs) = subst (λ (y : Value). Good y) p g in
-      rw (p, q) (record { fits = ap isIdList s ∙ ids-listed vs k ids; same = s })
+      rw (p, q) (record { fits = id-list-exactly (bytesOf f (contentOf (wholeAt at (list vs)))) .1 (record { ids = vs; each = ids; is = s }); same = s })
 
-  value-again : (class : Class) → allowed class ≡ true → (class ≡ Class.Ignored → ⊥) → Good x → Stands f at x → judged class at x ≡ Checked.Value h → Again f class x (contentOf h)
-  value-again Class.Unlisted w i g b e = clash false w refl
-  value-again Class.Boolean w i g b e = let r = as-integer (within 0 1) x h e in integer-again Class.Boolean (r .0) (r .2) (r .1) (r .3)
-  value-again Class.Ignored w i g b e = absurd (i refl)
-  value-again Class.Text w i g b e = let r = as-text at x h e in text-again b (r .0) (r .1) (r .2)
-  value-again Class.Integer w i g b e = let r = as-integer (λ z. true) x h e in integer-again Class.Integer (r .0) refl (r .1) (r .3)
-  value-again Class.TextList w i g b e = clash false w refl
-  value-again Class.TorrentList w i g b e = clash false w refl
-  value-again Class.Port w i g b e = let r = as-integer (within 0 largestPort) x h e in integer-again Class.Port (r .0) (r .2) (r .1) (r .3)
-  value-again Class.IdList w i g b e = let r = as-list isId at x h e in ids-again g b (r .0) (r .1) (r .2) (r .3)
+  value-again : (class : Class) → allowed class ≡ true → (class ≡ Class.Ignored → ⊥) → Stands f at x → judged class at x ≡ Checked.Value h → Again f class x (contentOf h)
+  value-again Class.Unlisted w i b e = clash false w refl
+  value-again Class.Boolean w i b e = let r = as-integer (within 0 1) x h e in integer-again Class.Boolean (r .0) (r .2) (r .1) (r .3)
+  value-again Class.Ignored w i b e = absurd (i refl)
+  value-again Class.Text w i b e = let r = as-text at x h e in text-again b (r .0) (r .1) (r .2)
+  value-again Class.Integer w i b e = let r = as-integer (λ z. true) x h e in integer-again Class.Integer (r .0) refl (r .1) (r .3)
+  value-again Class.TextList w i b e = clash false w refl
+  value-again Class.TorrentList w i b e = clash false w refl
+  value-again Class.Port w i b e = let r = as-integer (within 0 largestPort) x h e in integer-again Class.Port (r .0) (r .2) (r .1) (r .3)
+  value-again Class.IdList w i b e = let r = as-list isId at x h e in ids-again b (r .0) (r .1) (r .2) (r .3)
 
 -- ---- where the value stands in the frame
 pub stands-in : (f header whole key y tail rest : List ℕ) → length header ≡ headerLength → f ≡ header ++ (whole ++ rest) → whole ≡ letterL ∷ (key ++ (y ++ tail))
@@ -214,7 +201,7 @@ module _ (f : List ℕ) (a : Answer) (room : ℕ) (framed : Framed f a) (m : Mea
       let c = contentOf (m .held) in
       let p = encode (framed .payload) in
       let stands = stands-in f (framed .header) p (encodeString (m .key)) (encode (m .content)) (encodeTag (m .tag) ++ (letterE ∷ [])) (framed .rest) (framed .eight) (framed .is) (m .spelt) in
-      let v = value-again f (1 + length (encodeString (m .key))) (m .content) (m .held) (classOf k) (written-allowed k w) i (m .formed) stands (m .fits) in
+      let v = value-again f (1 + length (encodeString (m .key))) (m .content) (m .held) (classOf k) (written-allowed k w) i stands (m .fits) in
       let payload : payloadOf k (givenOf c) (bytesOf f c) (m .tag) ≡ p = payload-again k (givenOf c) (bytesOf f c) (m .tag) (m .key) (m .content) (sym (key-named (m .key) (written-listed k w))) (v .same) ∙ sym (m .spelt) in (
         written-count k (givenOf c) (bytesOf f c) (m .tag) room p w (v .fits) (m .small) payload (framed .small) fits,
         ap frameOf payload ∙ frame-again f (framed .header) p (framed .rest) (framed .is) (framed .eight) (framed .hex) (framed .number),
@@ -229,4 +216,4 @@ module _ (f : List ℕ) (a : Answer) (room : ℕ) (framed : Framed f a) (m : Mea
 pub writes-back : WritesBack
 writes-back f a room e code kind w i fits =
     let framed = accepts-exactly f a (inl code) .0 e in
-    framed-back f a room framed (inverts (headerLength + length (encode (framed .payload))) a code kind (framed .payload) (framed .formed) (framed .means)) w i fits
+    framed-back f a room framed (inverts (headerLength + length (encode (framed .payload))) a code kind (framed .payload) (framed .means)) w i fits

@@ -1,38 +1,32 @@
 -- The formats of values (document 01, 'The message').
 -- Assumes nothing.
 use Prim.Native.Nat.{ℕ, _+_, _-_}
-use mathlib.Core.Bool.{cond}
+use mathlib.Core.Bool.{Bool, true, cond}
 use mathlib.Core.List.{List}
 use lib.Dec.{eqb}
-use Rattle.bencode.specs.declared.entry.Entry.{Entry}
-use Rattle.bencode.specs.declared.fault.Walk.{Walk}
+use lib.IntN.{ℤ}
 use Rattle.bencode.specs.declared.integer.Number.{Number}
 use Rattle.bencode.specs.declared.string.Text.{Text}
 use Rattle.bencode.specs.Bytes.{letterD, letterL, byteAt}
-use Rattle.bencode.specs.Fault.{fault}
 use Rattle.bencode.specs.Integer.{integerAt, within}
-use Rattle.bencode.specs.String.{stringAt, textEnd}
-use Rattle.bencode.specs.Walk.{listFrom}
+use Rattle.bencode.specs.Loop.{Step, next, done, itemsFrom}
+use Rattle.bencode.specs.String.{stringAt}
 use Rattle.bencode.specs.Skip.{skipRest}
-use Rattle.bencode.specs.Entry.{entryAt}
+use Rattle.bencode.specs.Field.{fieldOf, ifInteger}
 use Rattle.ipc.specs.declared.keys.Class.{Class}
 use Rattle.ipc.specs.declared.format.Checked.{Checked}
 use Rattle.ipc.specs.declared.format.Items.{Items}
+use Rattle.ipc.specs.declared.format.OptionalEnd.{OptionalEnd}
 use Rattle.ipc.specs.declared.reading.Value.{Value}
 use Rattle.bencode.specs.Ascii.{ascii}
 use Rattle.ipc.specs.Header.{headerLength}
 use Rattle.ipc.specs.Ids.{torrentIdOf}
 use Rattle.ipc.specs.declared.ids.OptionalId.{OptionalId}
 
--- any integer
-abbrev pub anyInteger : Number → Checked
-anyInteger (Number.Integer z end) = Checked.Value (Value.Integer z)
-anyInteger (Number.Fault f) = Checked.Off
-
--- an integer from 0 to another
-abbrev pub upTo : ℕ → Number → Checked
-upTo high (Number.Integer z end) = cond (within 0 high z) (Checked.Value (Value.Integer z)) Checked.Off
-upTo high (Number.Fault f) = Checked.Off
+-- an integer that passes a test
+abbrev pub integerValue : (ℤ → Bool) → Number → Checked
+integerValue ok (Number.Integer z end) = cond (ok z) (Checked.Value (Value.Integer z)) Checked.Off
+integerValue ok (Number.Fault f) = Checked.Off
 
 -- the largest port
 abbrev pub largestPort : ℕ
@@ -47,50 +41,50 @@ textValue (Text.Fault f) = Checked.Off
 abbrev pub partValue : ℕ → ℕ → Value
 partValue at end = Value.Part (headerLength + at) (end - at)
 
--- an item off its format
-abbrev pub offItem : ℕ → Walk
-offItem at = Walk.Fault (fault 22 at)
+-- the offset after a string
+abbrev pub endOfText : Text → OptionalEnd
+endOfText (Text.Bytes start end) = OptionalEnd.End end
+endOfText (Text.Fault f) = OptionalEnd.None
 
--- the offset after a torrent ID
-abbrev pub idThen : ℕ → ℕ → OptionalId → Walk
-idThen at end (OptionalId.Id id) = Walk.End end
-idThen at end OptionalId.None = offItem at
+-- the offset after an item that has a torrent ID
+abbrev pub endById : ℕ → OptionalId → OptionalEnd
+endById end (OptionalId.Id id) = OptionalEnd.End end
+endById end OptionalId.None = OptionalEnd.None
 
-abbrev pub idNumber : ℕ → Number → Walk
-idNumber at (Number.Integer z end) = idThen at end (torrentIdOf z)
-idNumber at (Number.Fault f) = offItem at
+abbrev pub endOfId : Number → OptionalEnd
+endOfId (Number.Integer z end) = endById end (torrentIdOf z)
+endOfId (Number.Fault f) = OptionalEnd.None
 
 -- the offset after the torrent ID at an offset
-unfoldable pub idEnd : List ℕ → ℕ → Walk
-idEnd p at = idNumber at (integerAt p at)
-
--- the offset after a dictionary, once its `id` is a torrent ID
-abbrev pub afterId : List ℕ → Walk → Walk
-afterId p (Walk.End end) = Walk.End (skipRest p end)
-afterId p (Walk.Fault f) = Walk.Fault f
-
-abbrev pub torrentWith : List ℕ → ℕ → Entry → Walk
-torrentWith p at (Entry.At id) = afterId p (idEnd p id)
-torrentWith p at Entry.Missing = offItem at
+unfoldable pub idEnd : List ℕ → ℕ → OptionalEnd
+idEnd p at = endOfId (integerAt p at)
 
 -- the offset after the torrent at an offset: a dictionary with a torrent ID for `id`
-unfoldable pub torrentEnd : List ℕ → ℕ → Walk
-torrentEnd p at = cond (eqb (byteAt p at) letterD) (torrentWith p at (entryAt p (ascii "id") (at + 1))) (offItem at)
+unfoldable pub torrentEnd : List ℕ → ℕ → OptionalEnd
+torrentEnd p at =
+    cond (eqb (byteAt p at) letterD)
+    (ifInteger OptionalEnd.None (λ z end. endById (skipRest p end) (torrentIdOf z)) (fieldOf p (ascii "id") (at + 1)))
+    OptionalEnd.None
 
 -- the offset after an item of a list
-unfoldable pub itemEnd : Items → List ℕ → ℕ → Walk
-itemEnd Items.Texts p at = textEnd (stringAt p at)
+unfoldable pub itemEnd : Items → List ℕ → ℕ → OptionalEnd
+itemEnd Items.Texts p at = endOfText (stringAt p at)
 itemEnd Items.Ids p at = idEnd p at
 itemEnd Items.Torrents p at = torrentEnd p at
 
+-- goes on after an item, or ends where it is off its format
+abbrev pub pastItem : OptionalEnd → Unit {0} → Step (Unit {0}) OptionalEnd
+pastItem (OptionalEnd.End end) x = next end x
+pastItem OptionalEnd.None x = done OptionalEnd.None
+
 -- the offset after the items of a list, from an offset on
-abbrev pub itemsEnd : Items → List ℕ → ℕ → Walk
-itemsEnd items p at = listFrom (itemEnd items p) p at
+unfoldable pub itemsEnd : Items → List ℕ → ℕ → OptionalEnd
+itemsEnd items p at = itemsFrom p (λ end x. OptionalEnd.End end) (λ to x. pastItem (itemEnd items p to) x) (λ to. OptionalEnd.None) at tt
 
 -- a list, whose items are in their format
-abbrev pub listChecked : ℕ → ℕ → Walk → Checked
-listChecked at end (Walk.End e) = Checked.Value (partValue at end)
-listChecked at end (Walk.Fault f) = Checked.Off
+abbrev pub listChecked : ℕ → ℕ → OptionalEnd → Checked
+listChecked at end (OptionalEnd.End e) = Checked.Value (partValue at end)
+listChecked at end OptionalEnd.None = Checked.Off
 
 -- the list from an offset up to another
 unfoldable pub listPart : Items → List ℕ → ℕ → ℕ → Checked
@@ -99,11 +93,11 @@ listPart items p at end = cond (eqb (byteAt p at) letterL) (listChecked at end (
 -- what a message holds of the value from an offset up to another, in a format
 unfoldable pub formatted : Class → List ℕ → ℕ → ℕ → Checked
 formatted Class.Unlisted p at end = Checked.Value (partValue at end)
-formatted Class.Boolean p at end = upTo 1 (integerAt p at)
+formatted Class.Boolean p at end = integerValue (within 0 1) (integerAt p at)
 formatted Class.Ignored p at end = Checked.Value Value.Nothing
 formatted Class.Text p at end = textValue (stringAt p at)
-formatted Class.Integer p at end = anyInteger (integerAt p at)
+formatted Class.Integer p at end = integerValue (λ z. true) (integerAt p at)
 formatted Class.TextList p at end = listPart Items.Texts p at end
 formatted Class.TorrentList p at end = listPart Items.Torrents p at end
-formatted Class.Port p at end = upTo largestPort (integerAt p at)
+formatted Class.Port p at end = integerValue (within 0 largestPort) (integerAt p at)
 formatted Class.IdList p at end = listPart Items.Ids p at end

@@ -3,16 +3,11 @@
 use Prim.Native.Nat.{ℕ, _+_}
 use mathlib.Core.Bool.{cond, _&&_}
 use mathlib.Core.List.{List}
-use lib.Dec.{eqb}
 use lib.IntN.{ℤ, pos, natAbs}
 use lib.Signed.{leZ}
 use lib.ListN.{length}
-use Rattle.bencode.specs.declared.entry.Entry.{Entry}
-use Rattle.bencode.specs.declared.integer.Number.{Number}
-use Rattle.bencode.specs.Bytes.{letterD, byteAt}
-use Rattle.bencode.specs.Fault.{fault}
-use Rattle.bencode.specs.Integer.{integerAt}
-use Rattle.bencode.specs.Entry.{entryAt}
+use Rattle.bencode.specs.declared.field.Field.{Field}
+use Rattle.bencode.specs.Field.{fieldOf, ifInteger}
 use Rattle.ipc.specs.declared.reading.Reading.{Reading}
 use Rattle.ipc.specs.declared.versions.OptionalVersions.{OptionalVersions}
 use Rattle.bencode.specs.Ascii.{ascii}
@@ -28,35 +23,22 @@ rangeOf low high =
     (OptionalVersions.Range (record { min = natAbs low; max = natAbs high }))
     OptionalVersions.None
 
--- the integer that an entry has for its value
-abbrev pub entryInteger : List ℕ → Entry → Number
-entryInteger p (Entry.At at) = integerAt p at
-entryInteger p Entry.Missing = Number.Fault (fault 21 0)
+-- the versions from `min` to `max` of the dictionary whose entries start at an offset
+unfoldable pub rangeAt : List ℕ → ℕ → OptionalVersions
+rangeAt p at =
+    ifInteger OptionalVersions.None (λ low x. ifInteger OptionalVersions.None (λ high y. rangeOf low high) (fieldOf p (ascii "max") at)) (fieldOf p (ascii "min") at)
 
--- the integer of a key in the dictionary whose entries start at an offset
-unfoldable pub integerOf : List ℕ → List ℕ → ℕ → Number
-integerOf p key at = entryInteger p (entryAt p key at)
-
--- the versions between two integers
-abbrev pub between : Number → Number → OptionalVersions
-between (Number.Integer low x) (Number.Integer high y) = rangeOf low high
-between (Number.Integer low x) (Number.Fault f) = OptionalVersions.None
-between (Number.Fault f) n = OptionalVersions.None
-
--- the versions at an offset: a dictionary with `min` and `max`, or an integer
-unfoldable pub versionsAt : List ℕ → ℕ → OptionalVersions
-versionsAt p at =
-    cond (eqb (byteAt p at) letterD)
-    (between (integerOf p (ascii "min") (at + 1)) (integerOf p (ascii "max") (at + 1)))
-    (between (integerAt p at) (integerAt p at))
-
-abbrev pub entryVersions : List ℕ → Entry → OptionalVersions
-entryVersions p (Entry.At at) = versionsAt p at
-entryVersions p Entry.Missing = OptionalVersions.None
+-- the versions that `version` names: an integer, or a dictionary with `min` and `max`
+abbrev pub versionsIn : List ℕ → Field → OptionalVersions
+versionsIn p (Field.Integer z end) = rangeOf z z
+versionsIn p (Field.Text start end) = OptionalVersions.None
+versionsIn p (Field.List at) = OptionalVersions.None
+versionsIn p (Field.Dictionary at) = rangeAt p at
+versionsIn p Field.Missing = OptionalVersions.None
 
 -- the versions of the dictionary that a payload is
 unfoldable pub dictionaryVersions : List ℕ → OptionalVersions
-dictionaryVersions p = entryVersions p (entryAt p (ascii "version") 1)
+dictionaryVersions p = versionsIn p (fieldOf p (ascii "version") 1)
 
 abbrev pub handshakeOf : List ℕ → OptionalVersions → Reading
 handshakeOf p (OptionalVersions.Range v) = Reading.Handshake v (headerLength + length p)

@@ -5,7 +5,7 @@ use mathlib.Core.Bool.{Bool, true, false, cond, _&&_}
 use mathlib.Core.List.{List}
 use lib.IntN.{ℤ}
 use lib.ListN.{length}
-use Rattle.bencode.specs.Value.{Value, integer, string, list, dictionary, Values, no-value, value, encodeString, encode, Found, found, missing, lookup}
+use Rattle.bencode.specs.Value.{Value, integer, string, list, dictionary, Values, no-value, value, encodeString, encode, Found, found, missing, lookup, under, foundInteger}
 use Rattle.ipc.specs.declared.keys.Class.{Class}
 use Rattle.ipc.specs.declared.ids.OptionalTag.{OptionalTag}
 use Rattle.ipc.specs.declared.format.Checked.{Checked}
@@ -20,15 +20,9 @@ use Rattle.ipc.specs.Keys.{keyNumber, classOf}
 use Rattle.ipc.specs.Format.{largestPort}
 use Rattle.ipc.specs.Handshake.{rangeOf}
 
--- is a value an integer that passes a test
-abbrev pub integerBy : (ℤ → Bool) → Value → Bool
-integerBy ok (integer z) = ok z
-integerBy ok (string text) = false
-integerBy ok (list vs) = false
-integerBy ok (dictionary es) = false
-
+-- a torrent ID
 abbrev pub isId : Value → Bool
-isId = integerBy (within 1 largestId)
+isId v = foundInteger false (within 1 largestId) (found v)
 
 abbrev pub isText : Value → Bool
 isText (integer z) = false
@@ -36,16 +30,9 @@ isText (string text) = true
 isText (list vs) = false
 isText (dictionary es) = false
 
-abbrev pub foundId : Found → Bool
-foundId (found v) = isId v
-foundId missing = false
-
 -- a torrent: a dictionary whose `id` is a torrent ID
 abbrev pub isTorrent : Value → Bool
-isTorrent (integer z) = false
-isTorrent (string text) = false
-isTorrent (list vs) = false
-isTorrent (dictionary es) = foundId (lookup (ascii "id") es)
+isTorrent v = foundInteger false (within 1 largestId) (under (ascii "id") (found v))
 
 -- does every value of a list pass a test
 abbrev pub every : (Value → Bool) → Values → Bool
@@ -58,10 +45,7 @@ wholeAt at x = MessageValue.Part (headerLength + at) (length (encode x))
 
 -- an integer that passes a test
 abbrev pub asInteger : (ℤ → Bool) → Value → Checked
-asInteger ok (integer z) = cond (ok z) (Checked.Value (MessageValue.Integer z)) Checked.Off
-asInteger ok (string text) = Checked.Off
-asInteger ok (list vs) = Checked.Off
-asInteger ok (dictionary es) = Checked.Off
+asInteger ok v = foundInteger Checked.Off (λ z. cond (ok z) (Checked.Value (MessageValue.Integer z)) Checked.Off) (found v)
 
 -- a string's text, which is the end of its encoding
 abbrev pub asText : ℕ → Value → Checked
@@ -126,28 +110,14 @@ listOf used (value (string key) vs) = secondOf used key vs
 listOf used (value (list us) vs) = refused 20 0
 listOf used (value (dictionary es) vs) = refused 20 0
 
--- the versions between two values, which are integers
-abbrev pub rangeTo : ℤ → Found → OptionalVersions
-rangeTo low missing = OptionalVersions.None
-rangeTo low (found (integer high)) = rangeOf low high
-rangeTo low (found (string text)) = OptionalVersions.None
-rangeTo low (found (list vs)) = OptionalVersions.None
-rangeTo low (found (dictionary es)) = OptionalVersions.None
-
-abbrev pub rangeFrom : Found → Found → OptionalVersions
-rangeFrom missing high = OptionalVersions.None
-rangeFrom (found (integer low)) high = rangeTo low high
-rangeFrom (found (string text)) high = OptionalVersions.None
-rangeFrom (found (list vs)) high = OptionalVersions.None
-rangeFrom (found (dictionary es)) high = OptionalVersions.None
-
--- the versions that `version` names: an integer, or a dictionary with `min` and `max`
+-- the versions that `version` names: an integer, or a dictionary with integers `min` and `max`
 abbrev pub versionsOf : Found → OptionalVersions
-versionsOf missing = OptionalVersions.None
 versionsOf (found (integer z)) = rangeOf z z
 versionsOf (found (string text)) = OptionalVersions.None
 versionsOf (found (list vs)) = OptionalVersions.None
-versionsOf (found (dictionary es)) = rangeFrom (lookup (ascii "min") es) (lookup (ascii "max") es)
+versionsOf (found (dictionary es)) =
+    foundInteger OptionalVersions.None (λ low. foundInteger OptionalVersions.None (rangeOf low) (lookup (ascii "max") es)) (lookup (ascii "min") es)
+versionsOf missing = OptionalVersions.None
 
 abbrev pub versionsAnswer : ℕ → OptionalVersions → Answer
 versionsAnswer used (OptionalVersions.Range v) = acceptedHandshake used (v .min) (v .max)

@@ -7,10 +7,10 @@ use mathlib.Core.List.{List, [], _∷_, _++_, flatten}
 use lib.Dec.{eqb, leb}
 use lib.IntN.{ℤ, pos}
 use lib.ListN.{length, drop}
-use Rattle.bencode.specs.declared.fault.Walk.{Walk}
 use Rattle.bencode.specs.Bytes.{letterE, letterL, byteAt}
 use Rattle.bencode.specs.Value.{integer, encodeString, encode}
 use Rattle.ipc.specs.declared.format.Items.{Items}
+use Rattle.ipc.specs.declared.format.OptionalEnd.{OptionalEnd}
 use Rattle.ipc.specs.declared.keys.Class.{Class}
 use Rattle.ipc.specs.declared.write.Given.{Given}
 use Rattle.ipc.specs.declared.write.Written.{Written}
@@ -36,10 +36,10 @@ bufferAfter (Written.Count n) frame before = frame ++ drop (length frame) before
 bufferAfter (Written.Refused c) frame before = before
 
 -- ---- the format of a value that is handed in
--- does a walk end at an offset
-abbrev pub endsAt : ℕ → Walk → Bool
-endsAt end (Walk.End e) = eqb e end
-endsAt end (Walk.Fault f) = false
+-- is an end at an offset
+abbrev pub endsAt : ℕ → OptionalEnd → Bool
+endsAt end (OptionalEnd.End e) = eqb e end
+endsAt end OptionalEnd.None = false
 
 -- are bytes exactly one list of torrent IDs
 unfoldable pub isIdList : List ℕ → Bool

@@ -3,12 +3,12 @@ ghost use mathlib.Core.Path.{_≡_};
 ghost use Rattle.ipc.specs.Write.{isIdList, nothingFits, integerFits, bytesFit, valueFits};
 use super::format::Items;
 use super::format::LARGEST_PORT;
+use super::format::OptionalEnd;
 use super::format::is_up_to;
 use super::format::items_end;
 use super::keys::Class;
 use super::write::Given;
 use bencode::bytes::byte_at;
-use bencode::fault::Walk;
 
 // Are bytes exactly one list of torrent IDs.
 fn is_id_list(s: &[u8]) -> bool
@@ -18,8 +18,8 @@ fn is_id_list(s: &[u8]) -> bool
         return false;
     }
     match items_end(s, 1, Items::Ids) {
-        Walk::End(end) => end == s.len(),
-        Walk::Fault(_) => false,
+        OptionalEnd::End(end) => end == s.len(),
+        OptionalEnd::None => false,
     }
 }
 

@@ -1,27 +1,26 @@
 // The formats of values: what a message holds of a value that is in the format of its key.
 ghost use mathlib.Core.Path.{_≡_};
+ghost use mathlib.Core.Bool.{true};
 ghost use Prim.Native.Nat.{_≤_};
 ghost use lib.ListN.{length};
 ghost use Rattle.bencode.specs.String.{stringAt};
 ghost use Rattle.bencode.specs.Integer.{integerAt, within};
 ghost use Rattle.ipc.specs.Header.{largestPayload};
-ghost use Rattle.ipc.specs.Format.{anyInteger, upTo, textValue, partValue, offItem, idEnd, torrentEnd, itemEnd, itemsEnd, listPart, formatted};
+ghost use Rattle.ipc.specs.Ids.{torrentIdOf};
+ghost use Rattle.ipc.specs.Format.{integerValue, textValue, partValue, endOfText, endById, idEnd, torrentEnd, itemEnd, itemsEnd, listPart, formatted};
 use super::header::HEADER_LENGTH;
 use super::ids::OptionalId;
 use super::ids::TorrentId;
 use super::keys::Class;
 use super::reading::Value;
 use bencode::bytes::byte_at;
-use bencode::entry::Entry;
-use bencode::entry::find;
-use bencode::fault::Fault;
-use bencode::fault::Walk;
+use bencode::field::Field;
+use bencode::field::field_of;
 use bencode::integer::Number;
 use bencode::integer::integer;
 use bencode::skip::skip_rest;
 use bencode::string::Text;
 use bencode::string::string;
-use bencode::string::string_end;
 
 // The largest port.
 pub const LARGEST_PORT: u16 = 65535;
@@ -39,9 +38,15 @@ pub enum Items {
     Torrents,
 }
 
+// The offset after what is in its format, or none where it is off it.
+pub enum OptionalEnd {
+    End(usize),
+    None,
+}
+
 // Any integer.
 fn any_integer(p: &[u8], at: usize) -> Checked
-    ensures { λ r. ⌜ r ≡ anyInteger (integerAt (now (p .entry)) at) ⌝ }
+    ensures { λ r. ⌜ r ≡ integerValue (λ z. true) (integerAt (now (p .entry)) at) ⌝ }
 {
     match integer(p, at) {
         Number::Integer { value, end: _ } => Checked::Value(Value::Integer(value)),
@@ -64,7 +69,7 @@ pub fn is_up_to(z: i64, high: u16) -> bool
 
 // An integer from 0 to another.
 fn up_to(p: &[u8], at: usize, high: u16) -> Checked
-    ensures { λ r. ⌜ r ≡ upTo high (integerAt (now (p .entry)) at) ⌝ }
+    ensures { λ r. ⌜ r ≡ integerValue (within 0 high) (integerAt (now (p .entry)) at) ⌝ }
 {
     match integer(p, at) {
         Number::Integer { value, end: _ } => {
@@ -102,71 +107,75 @@ fn part_value(at: usize, end: usize) -> Value
     }
 }
 
-// An item off its format. The code tells it from a fault of the walk; no answer shows it.
-fn off_item(at: usize) -> Walk
-    ensures { λ r. ⌜ r ≡ offItem at ⌝ }
+// The offset after the string at an offset.
+fn text_end(p: &[u8], at: usize) -> OptionalEnd
+    ensures { λ r. ⌜ r ≡ endOfText (stringAt (now (p .entry)) at) ⌝ }
 {
-    Walk::Fault(Fault {
-        code: 22,
-        offset: at,
-    })
+    match string(p, at) {
+        Text::Bytes { start: _, end } => OptionalEnd::End(end),
+        Text::Fault(_) => OptionalEnd::None,
+    }
+}
+
+// The offset after an item whose torrent ID is a number.
+fn end_by_id(z: i64, end: usize) -> OptionalEnd
+    ensures { λ r. ⌜ r ≡ endById end (torrentIdOf z) ⌝ }
+{
+    match TorrentId::new(z) {
+        OptionalId::Id(_) => OptionalEnd::End(end),
+        OptionalId::None => OptionalEnd::None,
+    }
 }
 
 // The offset after the torrent ID at an offset.
-fn id_end(p: &[u8], at: usize) -> Walk
+fn id_end(p: &[u8], at: usize) -> OptionalEnd
     ensures { λ r. ⌜ r ≡ idEnd (now (p .entry)) at ⌝ }
 {
     match integer(p, at) {
-        Number::Integer { value, end } => match TorrentId::new(value) {
-            OptionalId::Id(_) => Walk::End(end),
-            OptionalId::None => off_item(at),
-        },
-        Number::Fault(_) => off_item(at),
+        Number::Integer { value, end } => end_by_id(value, end),
+        Number::Fault(_) => OptionalEnd::None,
     }
 }
 
 // The offset after the torrent at an offset: a dictionary whose `id` is a torrent ID.
-fn torrent_end(p: &[u8], at: usize) -> Walk
+fn torrent_end(p: &[u8], at: usize) -> OptionalEnd
     ensures { λ r. ⌜ r ≡ torrentEnd (now (p .entry)) at ⌝ }
 {
     if byte_at(p, at) != b'd' {
-        return off_item(at);
+        return OptionalEnd::None;
     }
-    match find(p, at + 1, b"id") {
-        Entry::Missing => off_item(at),
-        Entry::At(id) => match id_end(p, id) {
-            Walk::Fault(f) => Walk::Fault(f),
-            Walk::End(end) => Walk::End(skip_rest(p, end)),
-        },
+    match field_of(p, at + 1, b"id") {
+        Field::Integer { value, end } => end_by_id(value, skip_rest(p, end)),
+        _ => OptionalEnd::None,
     }
 }
 
 // The offset after an item of a list.
-fn item_end(p: &[u8], at: usize, items: Items) -> Walk
+fn item_end(p: &[u8], at: usize, items: Items) -> OptionalEnd
     ensures { λ r. ⌜ r ≡ itemEnd items (now (p .entry)) at ⌝ }
 {
     match items {
-        Items::Texts => string_end(p, at),
+        Items::Texts => text_end(p, at),
         Items::Ids => id_end(p, at),
         Items::Torrents => torrent_end(p, at),
     }
 }
 
 // The offset after the items of a list.
-pub fn items_end(p: &[u8], from: usize, items: Items) -> Walk
+pub fn items_end(p: &[u8], from: usize, items: Items) -> OptionalEnd
     ensures { λ r. ⌜ r ≡ itemsEnd items (now (p .entry)) from ⌝ }
 {
     let mut at = from;
     loop {
         if byte_at(p, at) == b'e' {
-            return Walk::End(at + 1);
+            return OptionalEnd::End(at + 1);
         }
         match item_end(p, at, items) {
-            Walk::End(end) => {
+            OptionalEnd::End(end) => {
                 at = end;
             }
-            Walk::Fault(f) => {
-                return Walk::Fault(f);
+            OptionalEnd::None => {
+                return OptionalEnd::None;
             }
         }
     }
@@ -181,8 +190,8 @@ fn list_part(p: &[u8], at: usize, end: usize, items: Items) -> Checked
         return Checked::Off;
     }
     match items_end(p, at + 1, items) {
-        Walk::End(_) => Checked::Value(part_value(at, end)),
-        Walk::Fault(_) => Checked::Off,
+        OptionalEnd::End(_) => Checked::Value(part_value(at, end)),
+        OptionalEnd::None => Checked::Off,
     }
 }
 

@@ -3,62 +3,35 @@ ghost use mathlib.Core.Path.{_≡_};
 ghost use Prim.Native.Nat.{_≤_};
 ghost use lib.ListN.{length};
 ghost use Rattle.ipc.specs.Header.{largestPayload};
-ghost use Rattle.ipc.specs.Handshake.{integerOf, between, versionsAt, dictionaryVersions, handshakeReading};
+ghost use Rattle.ipc.specs.Handshake.{rangeAt, dictionaryVersions, handshakeReading};
 use super::header::HEADER_LENGTH;
 use super::reading::Reading;
 use super::versions::OptionalVersions;
 use super::versions::Versions;
-use bencode::bytes::byte_at;
-use bencode::entry::Entry;
-use bencode::entry::find;
-use bencode::fault::Fault;
-use bencode::integer::Number;
-use bencode::integer::integer;
+use bencode::field::Field;
+use bencode::field::field_of;
 
-// The integer of a key in the dictionary whose entries start at an offset. A missing key is a fault that no answer shows.
-fn integer_of(p: &[u8], from: usize, key: &[u8]) -> Number
-    ensures { λ r. ⌜ r ≡ integerOf (now (p .entry)) (now (key .entry)) from ⌝ }
+// The versions from `min` to `max` of the dictionary whose entries start at an offset.
+fn range_at(p: &[u8], from: usize) -> OptionalVersions
+    ensures { λ r. ⌜ r ≡ rangeAt (now (p .entry)) from ⌝ }
 {
-    match find(p, from, key) {
-        Entry::At(at) => integer(p, at),
-        Entry::Missing => Number::Fault(Fault {
-            code: 21,
-            offset: 0,
-        }),
-    }
-}
-
-// The versions between two integers.
-fn range_between(low: Number, high: Number) -> OptionalVersions
-    ensures { λ r. ⌜ r ≡ between low high ⌝ }
-{
-    match low {
-        Number::Fault(_) => OptionalVersions::None,
-        Number::Integer { value: a, end: _ } => match high {
-            Number::Fault(_) => OptionalVersions::None,
-            Number::Integer { value: b, end: _ } => Versions::new(a, b),
+    match field_of(p, from, b"min") {
+        Field::Integer { value: min, end: _ } => match field_of(p, from, b"max") {
+            Field::Integer { value: max, end: _ } => Versions::new(min, max),
+            _ => OptionalVersions::None,
         },
+        _ => OptionalVersions::None,
     }
 }
 
-// The versions at an offset: a dictionary with `min` and `max`, or one integer.
-fn versions_at(p: &[u8], at: usize) -> OptionalVersions
-    ensures { λ r. ⌜ r ≡ versionsAt (now (p .entry)) at ⌝ }
-{
-    if byte_at(p, at) == b'd' {
-        return range_between(integer_of(p, at + 1, b"min"), integer_of(p, at + 1, b"max"));
-    }
-    let n = integer(p, at);
-    range_between(n, n)
-}
-
-// The versions of the dictionary that a payload is.
+// The versions of the dictionary that a payload is: its `version` is one integer, or a dictionary with `min` and `max`.
 fn versions_of(p: &[u8]) -> OptionalVersions
     ensures { λ r. ⌜ r ≡ dictionaryVersions (now (p .entry)) ⌝ }
 {
-    match find(p, 1, b"version") {
-        Entry::At(at) => versions_at(p, at),
-        Entry::Missing => OptionalVersions::None,
+    match field_of(p, 1, b"version") {
+        Field::Integer { value, end: _ } => Versions::new(value, value),
+        Field::Dictionary(from) => range_at(p, from),
+        _ => OptionalVersions::None,
     }
 }
 

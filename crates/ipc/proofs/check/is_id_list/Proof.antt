@@ -1,8 +1,8 @@
 -- `ipc::check::is_id_list` meets its contract.
 -- Assumes nothing.
 use mathlib.Core.Path.{sym, _∙_}
-use Rattle.ipc.proofs.CheckLaws.{ids-other, ids-end, ids-fault}
 use borrow.Author.Needs.{needs}
+use Rattle.ipc.proofs.CheckLaws.{ids-other, ids-end, ids-off}
 use Rattle.ipc.proofs.check.is_id_list.Statement.{statement}
 use Rattle.ipc.proofs.check.is_id_list.Tie as tie
 
@@ -25,7 +25,7 @@ returns-2 : tie.Need-returns-2
 returns-2 c = ids-end (c .before .before .before .before .before .before .before .args .s .now) (sym (c .before .before .before .before .before .byte-at .ensures) ∙ c .before .before .before .before .if1 .left) (c .before .end .given .0 .0) (sym (c .before .before .before .items-end .ensures) ∙ c .before .end .given .1)
 
 returns-3 : tie.Need-returns-3
-returns-3 c = ids-fault (c .before .before .before .before .before .before .args .s .now) (sym (c .before .before .before .before .byte-at .ensures) ∙ c .before .before .before .if1 .left) (c .enum-told .given .0 .0) (sym (c .before .before .items-end .ensures) ∙ c .enum-told .given .1)
+returns-3 c = ids-off (c .before .before .before .before .before .before .args .s .now) (sym (c .before .before .before .before .byte-at .ensures) ∙ c .before .before .before .if1 .left) (sym (c .before .before .items-end .ensures) ∙ c .enum-told .given .1)
 
 pub is-id-list-spec : {M : Type 1} → statement M
 is-id-list-spec =

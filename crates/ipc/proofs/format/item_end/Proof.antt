@@ -10,8 +10,8 @@ use Rattle.ipc.proofs.format.item_end.Tie as tie
 enum-told : tie.Need-enum-told
 enum-told c = search needs
 
-string-end-requires : tie.Need-string-end-requires
-string-end-requires c κs = search needs
+text-end-requires : tie.Need-text-end-requires
+text-end-requires c κs = search needs
 
 enum-told-2 : tie.Need-enum-told-2
 enum-told-2 c = search needs
@@ -27,7 +27,7 @@ torrent-end-requires c κs = search needs
 
 returns : tie.Need-returns
 unfolding itemEnd
-returns c = c .string-end .ensures ∙ sym (ap (λ (i : Items). itemEnd i (c .before .before .before .before .args .p .now) (c .before .before .before .before .args .at)) (c .before .enum-told .given .1))
+returns c = c .text-end .ensures ∙ sym (ap (λ (i : Items). itemEnd i (c .before .before .before .before .args .p .now) (c .before .before .before .before .args .at)) (c .before .enum-told .given .1))
 
 returns-2 : tie.Need-returns-2
 unfolding itemEnd
@@ -42,7 +42,7 @@ item-end-spec =
     tie.close
     (tie.spec
     enum-told
-    string-end-requires
+    text-end-requires
     enum-told-2
     id-end-requires
     enum-told-3

@@ -1,9 +1,7 @@
 -- `ipc::format::list_part` meets its contract.
 -- Assumes nothing.
 use mathlib.Core.Path.{sym, ap, _∙_}
-use native.Mathlib.Omega.{arith}
 use borrow.Author.Needs.{needs}
-use Rattle.bencode.proofs.NumeralLaws.{inside}
 use Rattle.ipc.specs.declared.format.Checked.{Checked}
 use Rattle.ipc.specs.declared.reading.Value.{Value}
 use Rattle.ipc.proofs.FormatLaws.{list-other, list-good, list-off}
@@ -17,7 +15,7 @@ returns : tie.Need-returns
 returns c = list-other (c .before .before .before .args .items) (c .before .before .before .args .p .now) (c .before .before .before .args .at) (c .before .before .before .args .end) (λ e. c .if1 .taken (c .before .byte-at .ensures ∙ e))
 
 add-items-end : tie.Need-add-items-end
-add-items-end c = omega (arith, inside (c .before .before .before .args .p .now) (c .before .before .before .args .at) (omega (arith, c .before .byte-at .ensures)))
+add-items-end c = search needs
 
 items-end-requires : tie.Need-items-end-requires
 items-end-requires c κs = search needs
@@ -35,7 +33,7 @@ returns-2 : tie.Need-returns-2
 returns-2 c = ap (λ (v : Value). Checked.Value v) (c .part-value .ensures) ∙ list-good (c .before .before .before .before .before .before .before .args .items) (c .before .before .before .before .before .before .before .args .p .now) (c .before .before .before .before .before .before .before .args .at) (c .before .before .before .before .before .before .before .args .end) (sym (c .before .before .before .before .before .byte-at .ensures) ∙ c .before .before .before .before .if1 .left) (c .before .enum-told .given .0 .0) (sym (c .before .before .before .items-end .ensures) ∙ c .before .enum-told .given .1)
 
 returns-3 : tie.Need-returns-3
-returns-3 c = list-off (c .before .before .before .before .before .before .args .items) (c .before .before .before .before .before .before .args .p .now) (c .before .before .before .before .before .before .args .at) (c .before .before .before .before .before .before .args .end) (sym (c .before .before .before .before .byte-at .ensures) ∙ c .before .before .before .if1 .left) (c .enum-told2 .given .0 .0) (sym (c .before .before .items-end .ensures) ∙ c .enum-told2 .given .1)
+returns-3 c = list-off (c .before .before .before .before .before .before .args .items) (c .before .before .before .before .before .before .args .p .now) (c .before .before .before .before .before .before .args .at) (c .before .before .before .before .before .before .args .end) (sym (c .before .before .before .before .byte-at .ensures) ∙ c .before .before .before .if1 .left) (sym (c .before .before .items-end .ensures) ∙ c .enum-told2 .given .1)
 
 pub list-part-spec : {M : Type 1} → statement M
 list-part-spec =

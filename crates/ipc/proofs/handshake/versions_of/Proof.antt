@@ -1,44 +1,52 @@
 -- `ipc::handshake::versions_of` meets its contract.
 -- Assumes nothing.
-use mathlib.Core.Path.{sym, ap, _∙_}
+use mathlib.Core.Path.{sym, _∙_}
 use borrow.Author.Needs.{needs}
-use Rattle.bencode.specs.declared.entry.Entry.{Entry}
 use Rattle.bencode.specs.Ascii.{ascii}
-use Rattle.ipc.specs.Handshake.{entryVersions, dictionaryVersions}
+use Rattle.ipc.proofs.HandshakeLaws.{versions-integer, versions-dictionary, versions-other}
 use Rattle.ipc.proofs.handshake.versions_of.Statement.{statement}
 use Rattle.ipc.proofs.handshake.versions_of.Tie as tie
 
-slice-aggregate-find : tie.Need-slice-aggregate-find
-slice-aggregate-find c = search needs
+slice-aggregate-field-of : tie.Need-slice-aggregate-field-of
+slice-aggregate-field-of c = search needs
 
-find-requires : tie.Need-find-requires
-find-requires c κs = search needs
+field-of-requires : tie.Need-field-of-requires
+field-of-requires c κs = search needs
 
-enum-known-at : tie.Need-enum-known-at
-enum-known-at c = search needs
+enum-known-value : tie.Need-enum-known-value
+enum-known-value c = search needs
 
-versions-at-requires : tie.Need-versions-at-requires
-versions-at-requires c κs = search needs
+new-requires : tie.Need-new-requires
+new-requires c κs = search needs
 
-enum-told : tie.Need-enum-told
-enum-told c = search needs
+enum-known-from : tie.Need-enum-known-from
+enum-known-from c = search needs
+
+range-at-requires : tie.Need-range-at-requires
+range-at-requires c κs = search needs
 
 returns : tie.Need-returns
-unfolding dictionaryVersions ascii
-returns c = c .versions-at .ensures ∙ ap (λ (e : Entry). entryVersions (c .before .before .before .before .before .before .before .args .p .now) e) (sym (c .before .before .at .given .1) ∙ c .before .before .before .before .find .ensures)
+unfolding ascii
+returns c = c .new .ensures ∙ versions-integer (c .before .before .before .before .before .before .before .args .p .now) (c .before .before .value .given .0 .0) (c .before .before .value .given .0 .1 .0) (sym (c .before .before .before .before .field-of .ensures) ∙ c .before .before .value .given .1) (record { sfits = c .before .known-told .given .0 .1 })
 
 returns-2 : tie.Need-returns-2
-unfolding dictionaryVersions ascii
-returns-2 c = ap (λ (e : Entry). entryVersions (c .before .before .before .before .before .args .p .now) e) (sym (c .enum-told .given .1) ∙ c .before .before .find .ensures)
+unfolding ascii
+returns-2 c = c .range-at .ensures ∙ versions-dictionary (c .before .before .before .before .before .before .before .args .p .now) (c .before .before .from .given .0 .0) (sym (c .before .before .before .before .field-of .ensures) ∙ c .before .before .from .given .1)
+
+returns-3 : tie.Need-returns-3
+unfolding ascii
+returns-3 c = versions-other (c .before .before .before .before .args .p .now) (c .before .field-of .result) (c .before .field-of .ensures) (c .match .keys3)
 
 pub versions-of-spec : {M : Type 1} → statement M
 versions-of-spec =
     tie.close
     (tie.spec
-    slice-aggregate-find
-    find-requires
-    enum-known-at
-    versions-at-requires
-    enum-told
+    slice-aggregate-field-of
+    field-of-requires
+    enum-known-value
+    new-requires
+    enum-known-from
+    range-at-requires
     returns
-    returns-2)
+    returns-2
+    returns-3)
