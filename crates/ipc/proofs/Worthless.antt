@@ -69,7 +69,7 @@ unfolding frameOf
 front-consumed p rest a small code kind e =
     let f = accepts-exactly (frameOf p ++ rest) a (inl code) .0 e in
     let n = headerLength + length (encode (f .payload)) in
-    let used : a .consumed ≡ n = ap (λ (x : Answer). x .consumed) (sym (inverts n a code kind (f .payload) (f .formed) (f .means) .is)) in
+    let used : a .consumed ≡ n = ap (λ (x : Answer). x .consumed) (sym (inverts n a code kind (f .payload) (f .means) .is)) in
     let front : f .header ≡ hexHeader (length p) =
     sym (take-at (f .header) (encode (f .payload) ++ f .rest) 8 (f .eight)) ∙ ap (take 8) (sym (f .is) ∙ append-assoc (hexHeader (length p)) p rest)
     ∙ take-at (hexHeader (length p)) (p ++ rest) 8 (header-length (length p)) in
