@@ -1,7 +1,7 @@
 // Reads a strip from standard input and runs it.
 use libc::STDERR_FILENO;
 use libc::STDIN_FILENO;
-use strip::record::LONGEST;
+use strip::LONGEST;
 
 // One byte more than a strip may have, so that a longer one is seen to be too long.
 const ROOM: usize = LONGEST + 1;

@@ -15,7 +15,7 @@ use Rattle.strip.specs.Record.{bodyLength, mayStand, callKind, callOf, w
 use Rattle.strip.specs.Demands.{HasKind, KindNamed}
 
 -- a test is true or false, and the case has the equation
-cases : {A : Type 0} (P : A → Type 0) {x y : A} (b : Bool) → (b ≡ true → P x) → (b ≡ false → P y) → P (cond b x y)
+pub cases : {A : Type 0} (P : A → Type 0) {x y : A} (b : Bool) → (b ≡ true → P x) → (b ≡ false → P y) → P (cond b x y)
 cases P true f g = f refl
 cases P false f g = g refl
 

@@ -2,4 +2,11 @@ pub mod NumberLaws
 pub mod RecordLaws
 pub mod GatherLaws
 pub mod LineLaws
+pub mod AnswerLaws
+pub mod RunLaws
 pub mod KindNamed
+pub mod Forward
+pub mod StepsLeft
+pub mod PrintsWhole
+pub mod OverLong
+pub mod StripsTried

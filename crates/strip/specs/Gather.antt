@@ -1,6 +1,6 @@
 -- The watch records of a strip, one after the other, as the desk is opened with them (over 32 are 35 there, and no strip's fault).
 -- Assumes nothing.
-use Prim.Native.Nat.{ℕ, _+_}
+use Prim.Native.Nat.{_+_}
 use mathlib.Core.Bool.{cond}
 use lib.Dec.{ltb}
 use lib.ListN.{set}

@@ -1,5 +1,9 @@
 pub mod Number
 pub mod Record
 pub mod Gather
+pub mod Answer
 pub mod Line
+pub mod Printed
+pub mod Run
 pub mod Demands
+pub mod Tries

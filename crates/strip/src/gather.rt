@@ -1,8 +1,8 @@
 // The watch records of a strip, as they come.
 ghost use mathlib.Core.Path.{_≡_};
 ghost use Rattle.strip.specs.Gather.{nothingGathered, gathered};
-use desk::watch::PLACES;
-use desk::watch::Watch;
+use desk::PLACES;
+use desk::Watch;
 
 // The first records, as many as a desk has places, and how many came; past one too many they are not counted.
 pub struct Gathered {

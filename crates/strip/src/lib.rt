@@ -1,5 +1,9 @@
-// The strip of document 01: a console's day as bytes. Its records, the calls they are, and the lines that a run prints.
-pub mod gather;
-pub mod line;
+// The strip of document 01: a console's day as bytes. Its records, the calls they are, and a run of it, step by step.
+mod gather;
+mod line;
 mod number;
-pub mod record;
+mod record;
+pub mod run;
+pub mod text;
+
+pub use record::LONGEST;

@@ -1,50 +1,68 @@
 // The lines that a run of a strip prints.
 ghost use mathlib.Core.Path.{_≡_};
-ghost use Rattle.strip.specs.Line.{lineOf, openText, callText, faultText};
+ghost use Prim.Native.Nat.{_+_, _≤_};
+ghost use mathlib.Core.List.{[]};
+ghost use lib.ListN.{length};
+ghost use Rattle.bencode.specs.Put.{Wrote};
+ghost use Rattle.strip.specs.Line.{wordText, callLine, framesText, callText, textOf};
+use super::text::Text;
 use bencode::put::put_bytes;
 use bencode::put::put_decimal;
 
-// The longest line, with room to spare.
-const ROOM: usize = 48;
-
-// A line: its bytes at the front, and how many they are.
-pub struct Line {
-    pub bytes: [u8; ROOM],
-    pub length: usize,
+// No line.
+pub fn no_text() -> Text
+    ensures { λ r. ⌜ r ≡ textOf [] ⌝ }
+{
+    Text {
+        bytes: [0u8; Text::ROOM],
+        length: 0,
+    }
 }
 
-// The line of an opening.
-pub fn open_line(code: u8) -> Line
-    ensures { λ r. ⌜ r ≡ lineOf (openText code) ⌝ }
+// A line of a word and a number.
+pub fn word_text(word: &[u8], n: usize) -> Text
+    requires { ⌜ length (now word) ≤ 16 ⌝ }
+    ensures { λ r. ⌜ r ≡ textOf (wordText (now (word .entry)) n) ⌝ }
 {
-    let mut bytes = [0u8; ROOM];
-    let o = put_bytes(&mut bytes, 0, b"open ");
-    let o = put_decimal(&mut bytes, o, code as u64);
+    let mut bytes = [0u8; Text::ROOM];
+    let o = put_bytes(&mut bytes, 0, word);
+    let o = put_decimal(&mut bytes, o, n as u64);
     let length = put_bytes(&mut bytes, o, b"\n");
-    Line { bytes, length }
+    Text { bytes, length }
 }
 
-// The line of a call: its kind, its code and how many bytes it wrote.
-pub fn call_line(kind: u8, code: u8, count: usize) -> Line
-    ensures { λ r. ⌜ r ≡ lineOf (callText kind code count) ⌝ }
+// Puts a call's line: its kind, its code and how many bytes it wrote.
+fn put_call(out: &mut [u8], kind: u8, code: u8, count: usize) -> usize
+    requires { ⌜ 48 ≤ length (now out) ⌝ }
+    ensures { λ r. ⌜ Wrote (now (out .entry)) 0 (callLine kind code count) (now (out .exit)) r ⌝ }
 {
-    let mut bytes = [0u8; ROOM];
-    let o = put_decimal(&mut bytes, 0, kind as u64);
-    let o = put_bytes(&mut bytes, o, b" ");
-    let o = put_decimal(&mut bytes, o, code as u64);
-    let o = put_bytes(&mut bytes, o, b" ");
-    let o = put_decimal(&mut bytes, o, count as u64);
-    let length = put_bytes(&mut bytes, o, b"\n");
-    Line { bytes, length }
+    let o = put_decimal(out, 0, kind as u64);
+    let o = put_bytes(out, o, b" ");
+    let o = put_decimal(out, o, code as u64);
+    let o = put_bytes(out, o, b" ");
+    let o = put_decimal(out, o, count as u64);
+    put_bytes(out, o, b"\n")
 }
 
-// The line of a fault.
-pub fn fault_line(offset: usize) -> Line
-    ensures { λ r. ⌜ r ≡ lineOf (faultText offset) ⌝ }
+// Puts the bytes that a call wrote, on a line; no line where it wrote none.
+fn put_frames(out: &mut [u8], at: usize, frames: &[u8]) -> usize
+    requires { ⌜ at + length (framesText (now frames)) ≤ length (now out) ⌝ }
+    ensures { λ r. ⌜ Wrote (now (out .entry)) at (framesText (now (frames .entry))) (now (out .exit)) r ⌝ }
 {
-    let mut bytes = [0u8; ROOM];
-    let o = put_bytes(&mut bytes, 0, b"strip fault ");
-    let o = put_decimal(&mut bytes, o, offset as u64);
-    let length = put_bytes(&mut bytes, o, b"\n");
-    Line { bytes, length }
+    if frames.len() == 0 {
+        return at;
+    }
+    let o = put_bytes(out, at, frames);
+    put_bytes(out, o, b"\n")
+}
+
+// A call's line, and the bytes it wrote on the next.
+pub fn call_text(kind: u8, code: u8, frames: &[u8]) -> Text
+    requires { ⌜ length (now frames) ≤ 479 ⌝ }
+    ensures { λ r. ⌜ r ≡ textOf (callText kind code (now (frames .entry))) ⌝ }
+{
+    let mut bytes = [0u8; Text::ROOM];
+    let o = put_call(&mut bytes, kind, code, frames.len());
+    let length = put_frames(&mut bytes, o, frames);
+    Text { bytes, length }
 }

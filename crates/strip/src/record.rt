@@ -6,7 +6,7 @@ ghost use Rattle.strip.specs.Record.{bodyLength, mayStand, callOf, callK
 use super::number::limit_at;
 use super::number::number_at;
 use bencode::bytes::byte_at;
-use desk::calls::Call;
+use desk::Call;
 
 // What stands at an offset of a strip: a record, a fault or the strip's end.
 pub enum Record {

@@ -1,38 +1,34 @@
--- `strip_run::run_strip` is safe and ends.
+-- `strip_run::run_strip` is safe and ends: what is left of the run falls at each step.
 -- Assumes nothing.
 use borrow.Author.Needs.{needs}
+use borrow.Author.Tests.{not-true}
+use Rattle.strip.proofs.StepsLeft.{stepsLeft, step-falls}
 use Rattle.strip_run.proofs.run_strip.Statement.{statement}
 use Rattle.strip_run.proofs.run_strip.Tie as tie
 
 abbrev Inv-loop : tie.InvT-loop
-Inv-loop s out₀ run₀ left₀ out run left = Unit
+Inv-loop s run₀ run = Unit
 
 abbrev μ-loop : tie.MeasureT-loop
-μ-loop s out₀ run₀ left₀ out run left = left
+μ-loop s run₀ run = stepsLeft s run
 
-slice-aggregate-out : tie.Need-slice-aggregate-out Inv-loop μ-loop
-slice-aggregate-out c = search needs
-
-begun-requires : tie.Need-begun-requires Inv-loop μ-loop
-begun-requires c κs = search needs
+begin-requires : tie.Need-begin-requires Inv-loop μ-loop
+begin-requires c κs = search needs
 
 loop-holds : tie.Need-loop-holds Inv-loop μ-loop
 loop-holds c = search needs
 
-sub-left : tie.Need-sub-left Inv-loop μ-loop
-sub-left c = search needs
+next-step-requires : tie.Need-next-step-requires Inv-loop μ-loop
+next-step-requires c κs = search needs
+
+print-text-requires : tie.Need-print-text-requires Inv-loop μ-loop
+print-text-requires c κs = search needs
 
 returns : tie.Need-returns Inv-loop μ-loop
 returns c = search needs
 
-record-at-requires : tie.Need-record-at-requires Inv-loop μ-loop
-record-at-requires c κs = search needs
-
-take-record-requires : tie.Need-take-record-requires Inv-loop μ-loop
-take-record-requires c κs = search needs
-
 loop-less : tie.Need-loop-less Inv-loop μ-loop
-loop-less c = search needs
+loop-less c = rw (c .before .before .before .before .next-step .ensures) (step-falls (c .before .before .before .before .before .before .before .before .before .before .args .s .now) (c .before .before .before .before .before .before .before .loop .run) (not-true (c .before .before .before .before .before .before .before .loop .run .over) (c .before .before .before .before .before .if1 .taken)))
 
 loop-again : tie.Need-loop-again Inv-loop μ-loop
 loop-again c = search needs
@@ -46,13 +42,11 @@ run-strip-spec =
     (tie.spec
     Inv-loop
     μ-loop
-    slice-aggregate-out
-    begun-requires
+    begin-requires
     loop-holds
-    sub-left
+    next-step-requires
+    print-text-requires
     returns
-    record-at-requires
-    take-record-requires
     loop-less
     loop-again
     returns-2)
