@@ -1,7 +1,8 @@
 // The writer of handshakes, and the version that two ranges agree on.
 ghost use mathlib.Core.Path.{_≡_};
 ghost use lib.ListN.{length};
-ghost use Rattle.ipc.specs.Greeting.{handshakePayload, handshakeWritten, agreedVersion};
+ghost use Rattle.ipc.specs.Greeting.{handshakePayload, handshakeWritten};
+ghost use Rattle.ipc.specs.Versions.{agreedVersion};
 ghost use Rattle.c_api.specs.Numbers.{Answered};
 use super::written::WriteAnswer;
 use super::written::write_answer_of;
@@ -19,5 +20,5 @@ pub extern "C" fn bogsilver_write_handshake(min: u32, max: u32, out: &mut [u8]) 
 pub extern "C" fn bogsilver_agreed_version(min: u32, max: u32, min2: u32, max2: u32) -> u32
     ensures { λ r. ⌜ r ≡ agreedVersion min max min2 max2 ⌝ }
 {
-    ipc::greeting::agreed_version(min, max, min2, max2)
+    ipc::versions::agreed_version(min, max, min2, max2)
 }

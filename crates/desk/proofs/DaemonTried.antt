@@ -20,7 +20,8 @@ use Rattle.ipc.specs.Ids.{tagOf, torrentIdOf}
 use Rattle.ipc.specs.Keys.{listed as keys, numberFrom, keyNumber, classOf}
 use Rattle.ipc.specs.Format.{idEnd, torrentEnd, itemEnd, itemsEnd, listPart, formatted}
 use Rattle.ipc.specs.Message.{tailAt, messageReading}
-use Rattle.ipc.specs.Handshake.{rangeOf, rangeAt, dictionaryVersions, handshakeReading}
+use Rattle.ipc.specs.Versions.{rangeOf}
+use Rattle.ipc.specs.Handshake.{rangeAt, dictionaryVersions, handshakeReading}
 use Rattle.ipc.specs.Frame.{payloadReading, lengthReading, frameReading, readFrame}
 use Rattle.desk.specs.Machine.{listed, obey, idsFrom, idsIn, limitCommand, idsCommand, contentCommand, commandIn, obeying, takes, handed}
 use Rattle.desk.specs.Tries.{runningOf, seen, before, tries, DaemonTried}

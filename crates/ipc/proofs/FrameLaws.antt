@@ -1,11 +1,14 @@
 -- Laws of frames: one for each way through the reader.
 -- Assumes nothing.
 use Prim.Native.Nat.{ℕ, _+_, _≤_, _<_}
-use mathlib.Core.Path.{_≡_, refl, ap}
+use mathlib.Core.Path.{_≡_, refl, sym, ap, subst, _∙_}
+use mathlib.Core.Logic.{⊎-elim}
 use mathlib.Core.Bool.{Bool, true, false, cond}
-use mathlib.Core.List.{List}
+use mathlib.Core.List.{List, [], _∷_}
 use native.Mathlib.Omega.{arith}
 use borrow.Author.Tests.{eq-eqb, ne-eqb, le-leb, lt-leb, lt-ltb, le-ltb, ltb-false}
+use denote.Enum.Declared.{tagOf}
+use types.Run.{OneOf, miss}
 use lib.Dec.{ltb}
 use lib.ListN.{length}
 use Rattle.bencode.specs.declared.fault.Fault.{Fault}
@@ -13,6 +16,7 @@ use Rattle.bencode.specs.declared.fault.Walk.{Walk}
 use Rattle.bencode.specs.declared.profile.Profile.{Profile}
 use Rattle.bencode.specs.Bytes.{byteAt, part}
 use Rattle.bencode.specs.Walk.{payloadAt}
+use Rattle.bencode.proofs.DigitLaws.{lt-or-le}
 use Rattle.ipc.specs.declared.header.Header.{Header}
 use Rattle.ipc.specs.declared.header.PayloadLength.{PayloadLength}
 use Rattle.ipc.specs.declared.header.Sized.{Sized}
@@ -21,6 +25,7 @@ use Rattle.ipc.specs.Header.{largestPayload, protocolPayload, readHeader
 use Rattle.ipc.specs.Message.{messageReading}
 use Rattle.ipc.specs.Handshake.{handshakeReading}
 use Rattle.ipc.specs.Frame.{payloadReading, lengthReading, bySize, frameReading}
+use Rattle.ipc.proofs.header.Sized.{the-type}
 
 module _ (p : List ℕ) where
   pub payload-fault : (f : Fault) → payloadAt Profile.Loose p ≡ Walk.Fault f → Reading.Payload f ≡ payloadReading p
@@ -74,6 +79,13 @@ sized-over-limit n h g = rw (le-ltb protocolPayload n g, lt-ltb largestPayload n
 pub sized-over-protocol : (n : ℕ) → protocolPayload < n → sized n ≡ Sized.OverProtocol
 unfolding sized
 sized-over-protocol n h = rw (lt-ltb protocolPayload n h) refl
+
+-- the same of the number, and what the other sizes say of it, by the numbers of the kinds in the order of the source
+pub sized-length : (n : ℕ) (l : PayloadLength) → sized n ≡ Sized.Length l → n ≤ largestPayload
+sized-length n l e = omega (arith, sized-small n l e, sized-same n l e)
+
+pub sized-over : (n : ℕ) (z : Sized) → z ≡ sized n → OneOf (1 ∷ 2 ∷ []) (tagOf the-type z) → largestPayload < n
+sized-over n z e h = ⊎-elim (λ (l : largestPayload < n). l) (λ (l : n ≤ largestPayload). absurd (miss (1 ∷ 2 ∷ []) 0 tt (subst (λ (y : Sized). OneOf (1 ∷ 2 ∷ []) (tagOf the-type y)) (e ∙ sized-fits n l) h))) (lt-or-le largestPayload n)
 
 module _ (s : List ℕ) where
   pub frame-no-digit : (at : ℕ) → readHeader s ≡ Header.NoDigit at → Reading.NoDigit at ≡ frameReading s

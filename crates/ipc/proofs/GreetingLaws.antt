@@ -1,17 +1,19 @@
 -- Laws of handshakes that are written: the parts of one, and how many bytes it has.
 -- Assumes nothing.
 use Prim.Native.Nat.{ℕ, _+_}
-use mathlib.Core.Path.{_≡_, refl, sym, ap, _∙_}
-use mathlib.Core.Bool.{true, false}
+use mathlib.Core.Path.{_≡_, sym, ap, _∙_}
 use mathlib.Core.List.{List, [], _∷_, flatten, append-assoc, append-nil}
 use native.Mathlib.Omega.{arith}
 use lib.IntN.{pos}
 use lib.ListN.{length, length-append}
 use Rattle.bencode.specs.Numeral.{decimalBefore, decimal}
 use Rattle.bencode.specs.Value.{integer, encode}
+use Rattle.ipc.specs.declared.versions.Versions.{Versions}
+use Rattle.ipc.specs.declared.versions.OptionalVersions.{OptionalVersions}
 use Rattle.ipc.specs.declared.write.Written.{Written}
 use Rattle.bencode.specs.Ascii.{ascii}
-use Rattle.ipc.specs.Greeting.{isRange, handshakePayload, handshakeWritten}
+use Rattle.ipc.specs.Greeting.{handshakePayload, rangeWritten, handshakeWritten}
+use Rattle.ipc.specs.Versions.{rangeOf}
 use Rattle.ipc.specs.Write.{fitted}
 
 -- the parts of a handshake's payload, around two numbers as they are written
@@ -34,10 +36,10 @@ module _ (low high : ℕ) where
   handshake-length = ap length (sym handshake-parts) ∙ around-length (encode (integer (pos low))) (encode (integer (pos high)))
 
   -- the answer to a handshake
-  pub written-range : (room : ℕ) → isRange low high ≡ true → handshakeWritten low high room ≡ fitted (handshakePayload low high) room
+  pub written-range : (room : ℕ) (v : Versions) → rangeOf (pos low) (pos high) ≡ OptionalVersions.Range v → handshakeWritten low high room ≡ fitted (handshakePayload low high) room
   unfolding handshakeWritten
-  written-range room e = rw e refl
+  written-range room v e = ap (rangeWritten (handshakePayload low high) room) e
 
-  pub written-none : (room : ℕ) → isRange low high ≡ false → handshakeWritten low high room ≡ Written.Refused 41
+  pub written-none : (room : ℕ) → rangeOf (pos low) (pos high) ≡ OptionalVersions.None → handshakeWritten low high room ≡ Written.Refused 41
   unfolding handshakeWritten
-  written-none room e = rw e refl
+  written-none room e = ap (rangeWritten (handshakePayload low high) room) e

@@ -15,9 +15,10 @@ use Rattle.bencode.specs.Demands.{ShowsFound}
 use Rattle.bencode.proofs.FieldLaws.{finds-field, finds-integer}
 use Rattle.ipc.specs.declared.versions.OptionalVersions.{OptionalVersions}
 use Rattle.ipc.specs.Answer.{answerOf}
-use Rattle.ipc.specs.Handshake.{rangeOf, rangeAt, versionsIn, dictionaryVersions, handshakeOf, handshakeReading}
+use Rattle.ipc.specs.Handshake.{rangeAt, versionsIn, dictionaryVersions, handshakeOf, handshakeReading}
 use Rattle.ipc.specs.Header.{headerLength}
 use Rattle.ipc.specs.Meaning.{versionsOf, versionsAnswer}
+use Rattle.ipc.specs.Versions.{rangeOf}
 
 module _ (profile : Profile) (p : List ℕ) where
   range-means : (levels : ℕ) (es : Entries) (at e : ℕ) → AllEntries profile (WellFormed profile levels) [] es → Begins p at (encodeEntries es ++ (101 ∷ [])) e → rangeAt p at ≡ versionsOf (found (dictionary es))

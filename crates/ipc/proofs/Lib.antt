@@ -2,6 +2,7 @@ pub mod HeaderLaws
 pub mod KeyLaws
 pub mod FormatLaws
 pub mod MessageLaws
+pub mod VersionLaws
 pub mod HandshakeLaws
 pub mod FrameLaws
 pub mod Means

@@ -2,7 +2,7 @@
 -- Assumes nothing.
 use Prim.Native.Nat.{ℕ, zero, suc, _+_, _-_, _^_, _≤_, _<_}
 use mathlib.Core.Path.{_≡_, refl, sym, ap, _∙_}
-use mathlib.Core.Bool.{Bool, true, false, cond, _&&_}
+use mathlib.Core.Bool.{Bool, true, false, cond}
 use mathlib.Core.List.{List, [], _∷_, _++_, append-nil, append-assoc}
 use native.Mathlib.Omega.{arith}
 use native.Mathlib.Decide.{decLt}
@@ -23,26 +23,28 @@ use Rattle.ipc.specs.declared.format.Checked.{Checked}
 use Rattle.ipc.specs.declared.ids.OptionalTag.{OptionalTag}
 use Rattle.ipc.specs.declared.keys.Class.{Class}
 use Rattle.ipc.specs.declared.reading.Value.{Value as MessageValue}
+use Rattle.ipc.specs.declared.versions.OptionalVersions.{OptionalVersions}
 use Rattle.ipc.specs.declared.write.Given.{Given}
 use Rattle.ipc.specs.declared.write.Written.{Written}
 use Rattle.ipc.specs.Answer.{Answer, part, accepted, acceptedHandshake, contentOf}
 use Rattle.bencode.specs.Ascii.{ascii}
 use Rattle.ipc.specs.Frame.{readFrame}
-use Rattle.ipc.specs.Greeting.{isRange, handshakeValue, handshakePayload, handshakeWritten}
-use Rattle.ipc.specs.Handshake.{largestVersion, rangeOf}
+use Rattle.ipc.specs.Greeting.{handshakeValue, handshakePayload, rangeWritten, handshakeWritten}
 use Rattle.ipc.specs.Header.{headerLength, largestPayload}
 use Rattle.ipc.specs.Hex.{hexHeader}
 use Rattle.ipc.specs.Ids.{largestTag, tagOf}
 use Rattle.ipc.specs.Keys.{keyText, Listed, listed, unlisted, numberFrom, keyNumber, classOf, isWritten}
-use Rattle.ipc.specs.Meaning.{wholeAt, judged, meaning}
+use Rattle.ipc.specs.Meaning.{wholeAt, judged, versionsAnswer, meaning}
+use Rattle.ipc.specs.Versions.{rangeOf, IsRange}
 use Rattle.ipc.specs.Write.{nothingFits, integerFits, bytesFit, valueFits, encodeGiven, encodeTag, payloadOf, frameOf, fitted, writeAnswer, messageFault}
 use Rattle.ipc.specs.Demands.{IdList, GivenFits, Named, ReadsBack, BufferReadsBack, HandshakeReadsBack}
 use Rattle.ipc.proofs.Accepts.{answers-meaning}
 use Rattle.ipc.proofs.HexLaws.{header-length, header-digits, from-header}
 use Rattle.ipc.proofs.IdLists.{id-list-formed, id-list-exactly}
-use Rattle.ipc.proofs.Inverts.{and-left, and-right, spelling, untagged-text, tagged-text}
+use Rattle.ipc.proofs.Inverts.{spelling, untagged-text, tagged-text}
 use Rattle.ipc.proofs.WritesBack.{Stands, text-stands, stands-in, payload-again}
 use Rattle.ipc.proofs.OutcomeLaws.{frame-length}
+use Rattle.ipc.proofs.VersionLaws.{range-is, range-made}
 
 -- ---- what a count says
 -- a payload that is written, in a frame of n bytes
@@ -298,30 +300,27 @@ buffer-reads-back key tag n given s before after fits o =
 -- ---- handshakes
 -- a handshake that is written has a range
 record Ranged (low high n : ℕ) : Type 0 where
-  range : isRange low high ≡ true
+  range : IsRange low high
   counted : Counted (encode (handshakeValue low high)) n
 
 ranged : (low high room n : ℕ) → handshakeWritten low high room ≡ Written.Count n → Ranged low high n
 unfolding handshakeWritten handshakePayload
-ranged low high room n e = go (isRange low high) refl e
+ranged low high room n e = go (rangeOf (pos low) (pos high)) refl e
   where
-    go : (t : Bool) → isRange low high ≡ t → cond t (fitted (encode (handshakeValue low high)) room) (Written.Refused 41) ≡ Written.Count n → Ranged low high n
-    go true q e = record { range = q; counted = fitted-counted (encode (handshakeValue low high)) room n e }
-    go false q e = let z : _≡_ {A = ℕ} 0 1 = cc in absurd (omega arith)
+    go : (x : OptionalVersions) → rangeOf (pos low) (pos high) ≡ x → rangeWritten (encode (handshakeValue low high)) room x ≡ Written.Count n → Ranged low high n
+    go (OptionalVersions.Range v) q e = record { range = range-made low high v q .0; counted = fitted-counted (encode (handshakeValue low high)) room n e }
+    go OptionalVersions.None q e = let z : _≡_ {A = ℕ} 0 1 = cc in absurd (omega arith)
 
-handshake-formed : (low high : ℕ) → isRange low high ≡ true → WellFormed Profile.Loose largestDepth (handshakeValue low high)
+handshake-formed : (low high : ℕ) → IsRange low high → WellFormed Profile.Loose largestDepth (handshakeValue low high)
 unfolding keyFault isUsed same ascii
-handshake-formed low high e =
-    let up : leb low high && leb high largestVersion ≡ true = and-right (leb 1 low) (leb low high && leb high largestVersion) e in
-    let rises : low ≤ high = leb-true low high (and-left (leb low high) (leb high largestVersion) up) in
-    let ends : high ≤ largestVersion = leb-true high largestVersion (and-right (leb low high) (leb high largestVersion) up) in
-    let low-fits : low < 2 ^ 63 = omega arith in
-    let high-fits : high < 2 ^ 63 = omega arith in
+handshake-formed low high r =
+    let low-fits : low < 2 ^ 63 = omega (arith, r .ordered, r .small) in
+    let high-fits : high < 2 ^ 63 = omega (arith, r .small) in
     (refl, (refl, low-fits, (refl, high-fits, tt)), tt)
 
-handshake-meant : (used low high : ℕ) → isRange low high ≡ true → meaning used (handshakeValue low high) ≡ acceptedHandshake used low high
-unfolding same ascii rangeOf
-handshake-meant used low high e = rw e refl
+handshake-meant : (used low high : ℕ) → IsRange low high → meaning used (handshakeValue low high) ≡ acceptedHandshake used low high
+unfolding same ascii
+handshake-meant used low high r = ap (versionsAnswer used) (range-is low high r)
 
 pub handshake-reads-back : HandshakeReadsBack
 unfolding handshakePayload

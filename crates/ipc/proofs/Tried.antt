@@ -21,7 +21,8 @@ use Rattle.bencode.specs.Entry.{entryAt}
 use Rattle.bencode.specs.Field.{fieldAt, fieldOf}
 use Rattle.ipc.specs.Format.{idEnd, torrentEnd, itemEnd, itemsEnd, listPart, formatted}
 use Rattle.ipc.specs.Message.{tailAt, messageReading}
-use Rattle.ipc.specs.Handshake.{rangeOf, rangeAt, dictionaryVersions, handshakeReading}
+use Rattle.ipc.specs.Versions.{rangeOf}
+use Rattle.ipc.specs.Handshake.{rangeAt, dictionaryVersions, handshakeReading}
 use Rattle.ipc.specs.Frame.{payloadReading, lengthReading, frameReading, readFrame}
 use Rattle.ipc.specs.Greeting.{handshakePayload}
 use Rattle.ipc.specs.Hex.{hexDigit, hexIn, hexHeader}

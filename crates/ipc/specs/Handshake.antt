@@ -1,10 +1,7 @@
 -- Handshakes: a dictionary with a range of versions (document 01, 'The message').
 -- Assumes nothing.
 use Prim.Native.Nat.{ℕ, _+_}
-use mathlib.Core.Bool.{cond, _&&_}
 use mathlib.Core.List.{List}
-use lib.IntN.{ℤ, pos, natAbs}
-use lib.Signed.{leZ}
 use lib.ListN.{length}
 use Rattle.bencode.specs.declared.field.Field.{Field}
 use Rattle.bencode.specs.Field.{fieldOf, ifInteger}
@@ -12,16 +9,7 @@ use Rattle.ipc.specs.declared.reading.Reading.{Reading}
 use Rattle.ipc.specs.declared.versions.OptionalVersions.{OptionalVersions}
 use Rattle.bencode.specs.Ascii.{ascii}
 use Rattle.ipc.specs.Header.{headerLength}
-
-abbrev pub largestVersion : ℕ
-largestVersion = 2147483647
-
--- the versions from one number to another: 1 ≤ low ≤ high ≤ the largest
-unfoldable pub rangeOf : ℤ → ℤ → OptionalVersions
-rangeOf low high =
-    cond (leZ (pos 1) low && (leZ low high && leZ high (pos largestVersion)))
-    (OptionalVersions.Range (record { min = natAbs low; max = natAbs high }))
-    OptionalVersions.None
+use Rattle.ipc.specs.Versions.{rangeOf}
 
 -- the versions from `min` to `max` of the dictionary whose entries start at an offset
 unfoldable pub rangeAt : List ℕ → ℕ → OptionalVersions

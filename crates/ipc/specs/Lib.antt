@@ -4,6 +4,7 @@ pub mod Keys
 pub mod Answer
 pub mod Format
 pub mod Message
+pub mod Versions
 pub mod Handshake
 pub mod Frame
 pub mod Hex

@@ -18,7 +18,7 @@ use Rattle.bencode.specs.Integer.{within}
 use Rattle.ipc.specs.Ids.{largestId, tagOf}
 use Rattle.ipc.specs.Keys.{keyNumber, classOf}
 use Rattle.ipc.specs.Format.{largestPort}
-use Rattle.ipc.specs.Handshake.{rangeOf}
+use Rattle.ipc.specs.Versions.{rangeOf}
 
 -- a torrent ID
 abbrev pub isId : Value → Bool

@@ -1,11 +1,15 @@
-// Whether a value that is handed to the writer is in the format of its key.
+// Whether a value that is handed to the writer is in the format of its key, and a tag in its range.
 ghost use mathlib.Core.Path.{_≡_};
+ghost use lib.Dec.{leb};
+ghost use Rattle.ipc.specs.Ids.{largestTag};
 ghost use Rattle.ipc.specs.Write.{isIdList, nothingFits, integerFits, bytesFit, valueFits};
 use super::format::Items;
 use super::format::LARGEST_PORT;
 use super::format::OptionalEnd;
 use super::format::is_up_to;
 use super::format::items_end;
+use super::ids::OptionalTag;
+use super::ids::Tag;
 use super::keys::Class;
 use super::write::Given;
 use bencode::bytes::byte_at;
@@ -61,5 +65,18 @@ pub fn value_fits(class: Class, given: Given, s: &[u8]) -> bool
         Given::Nothing => nothing_fits(class),
         Given::Integer(z) => integer_fits(class, z),
         Given::Bytes => bytes_fit(class, s),
+    }
+}
+
+// Is a number that is handed in a tag, or 0 for none.
+pub fn tag_fits(tag: u32) -> bool
+    ensures { λ r. ⌜ r ≡ leb tag largestTag ⌝ }
+{
+    if tag == 0 {
+        return true;
+    }
+    match Tag::new(tag as i64) {
+        OptionalTag::Tag(_) => true,
+        OptionalTag::None => false,
     }
 }

@@ -1,12 +1,13 @@
-// The writer of handshakes, and the version that two ranges agree on.
+// The writer of handshakes.
 ghost use mathlib.Core.Path.{_≡_};
-ghost use Prim.Native.Nat.{_≤_, min, max};
+ghost use Prim.Native.Nat.{_≤_};
 ghost use lib.ListN.{length};
 ghost use Rattle.bencode.specs.Put.{Wrote};
 ghost use Rattle.ipc.specs.Write.{frameOf, fitted, Outcome};
-ghost use Rattle.ipc.specs.Greeting.{isRange, handshakePayload, handshakeWritten, common, agreedVersion};
+ghost use Rattle.ipc.specs.Greeting.{handshakePayload, handshakeWritten};
 use super::header::HEADER_LENGTH;
 use super::hex::hex_header;
+use super::versions::OptionalVersions;
 use super::versions::Versions;
 use super::write::Written;
 use bencode::put::integer_length;
@@ -15,56 +16,6 @@ use bencode::put::put_integer;
 
 // The bytes of a handshake beside its two integers.
 const HANDSHAKE_TEXT: usize = 23;
-
-// Is there a range of versions from one number to another.
-fn is_range(low: u32, high: u32) -> bool
-    ensures { λ r. ⌜ r ≡ isRange low high ⌝ }
-{
-    if low < 1 {
-        return false;
-    }
-    if high < low {
-        return false;
-    }
-    high as i64 <= Versions::LARGEST
-}
-
-fn larger(a: u32, b: u32) -> u32
-    ensures { λ r. ⌜ r ≡ max a b ⌝ }
-{
-    if a < b { b } else { a }
-}
-
-fn smaller(a: u32, b: u32) -> u32
-    ensures { λ r. ⌜ r ≡ min a b ⌝ }
-{
-    if a < b { a } else { b }
-}
-
-// The largest number in two ranges, and 0 where there is none.
-fn largest_common(low: u32, high: u32, low2: u32, high2: u32) -> u32
-    ensures { λ r. ⌜ r ≡ common low high low2 high2 ⌝ }
-{
-    let least = larger(low, low2);
-    let most = smaller(high, high2);
-    if least <= most {
-        return most;
-    }
-    0
-}
-
-// The version that two ranges agree on: the largest in both, or 0 if there is none or if either is no range.
-pub fn agreed_version(low: u32, high: u32, low2: u32, high2: u32) -> u32
-    ensures { λ r. ⌜ r ≡ agreedVersion low high low2 high2 ⌝ }
-{
-    if is_range(low, high) {
-        if is_range(low2, high2) {
-            return largest_common(low, high, low2, high2);
-        }
-        return 0;
-    }
-    0
-}
 
 // Writes the frame of a handshake whose payload has a length.
 fn put_handshake(out: &mut [u8], low: u32, high: u32, size: u32) -> usize
@@ -95,8 +46,8 @@ fn write_range(low: u32, high: u32, out: &mut [u8]) -> Written
 pub fn write_handshake(low: u32, high: u32, out: &mut [u8]) -> Written
     ensures { λ r. ⌜ Outcome (handshakeWritten low high (length (now (out .entry)))) (handshakePayload low high) (now (out .entry)) r (now (out .exit)) ⌝ }
 {
-    if is_range(low, high) {
-        return write_range(low, high, out);
+    match Versions::new(low as i64, high as i64) {
+        OptionalVersions::Range(_) => write_range(low, high, out),
+        OptionalVersions::None => Written::Refused(Written::VALUE),
     }
-    Written::Refused(Written::VALUE)
 }

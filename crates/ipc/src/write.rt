@@ -4,11 +4,12 @@ ghost use Prim.Native.Nat.{_≤_};
 ghost use lib.ListN.{length};
 ghost use Rattle.bencode.specs.Put.{Wrote, Put};
 ghost use Rattle.ipc.specs.Write.{encodeBytes, encodeGiven, encodeTag, payloadOf, frameOf, messageFault, lengthFault, writeAnswer, Outcome};
+use super::check::tag_fits;
 use super::check::value_fits;
 use super::header::HEADER_LENGTH;
 use super::header::PayloadLength;
+use super::header::Sized;
 use super::hex::hex_header;
-use super::ids::Tag;
 use super::keys::Class;
 use super::keys::class_of;
 use super::keys::is_written;
@@ -86,7 +87,7 @@ fn message_fault(key: u8, given: Given, s: &[u8], tag: u32) -> u8
 {
     if is_written(key) {
         if value_fits(class_of(key), given, s) {
-            if tag <= Tag::LARGEST as u32 {
+            if tag_fits(tag) {
                 return 0;
             }
             return Written::TAG;
@@ -100,14 +101,15 @@ fn message_fault(key: u8, given: Given, s: &[u8], tag: u32) -> u8
 fn length_fault(size: u32, room: usize) -> u8
     ensures { λ r. ⌜ r ≡ lengthFault size room ⌝ }
 {
-    let frame = HEADER_LENGTH + size as usize;
-    if PayloadLength::LARGEST < size {
-        return Written::LENGTH;
+    match PayloadLength::new(size) {
+        Sized::Length(_) => {
+            if room < HEADER_LENGTH + size as usize {
+                return Written::ROOM;
+            }
+            0
+        }
+        _ => Written::LENGTH,
     }
-    if room < frame {
-        return Written::ROOM;
-    }
-    0
 }
 
 // Writes the frame of a message whose payload has a length.

@@ -1,22 +1,30 @@
 -- `ipc::write::length_fault` meets its contract.
 -- Assumes nothing.
+use mathlib.Core.Path.{sym, _∙_}
 use native.Mathlib.Omega.{arith}
-use borrow.Author.Needs.{needs}
+use Rattle.ipc.proofs.FrameLaws.{sized-length, sized-over}
 use Rattle.ipc.proofs.OutcomeLaws.{fault-43, fault-44, fault-none}
+use borrow.Author.Needs.{needs}
 use Rattle.ipc.proofs.write.length_fault.Statement.{statement}
 use Rattle.ipc.proofs.write.length_fault.Tie as tie
 
-add-frame : tie.Need-add-frame
-add-frame c = search needs
+new-requires : tie.Need-new-requires
+new-requires c κs = search needs
+
+enum-told : tie.Need-enum-told
+enum-told c = search needs
+
+add-if1 : tie.Need-add-if1
+add-if1 c = search needs
 
 returns : tie.Need-returns
-returns c = fault-43 _ _ (omega (arith, c .if1 .taken))
+returns c = fault-44 _ _ (sized-length (c .before .before .before .before .args .size) (c .before .enum-told .given .0 .0) (sym (c .before .before .before .new .ensures) ∙ c .before .enum-told .given .1)) (omega (arith, c .if1 .taken))
 
 returns-2 : tie.Need-returns-2
-returns-2 c = fault-44 _ _ (omega (arith, c .before .if1 .left)) (omega (arith, c .if2 .taken))
+returns-2 c = fault-none _ _ (sized-length (c .before .before .before .before .args .size) (c .before .enum-told .given .0 .0) (sym (c .before .before .before .new .ensures) ∙ c .before .enum-told .given .1)) (omega (arith, c .if1 .left))
 
 returns-3 : tie.Need-returns-3
-returns-3 c = fault-none _ _ (omega (arith, c .before .if1 .left)) (omega (arith, c .if2 .left))
+returns-3 c = fault-43 _ _ (sized-over (c .before .before .args .size) (c .before .new .result) (c .before .new .ensures) (c .match .keys2))
 
 pub length-fault-spec : {M : Type 1} → statement M
-length-fault-spec = tie.close (tie.spec add-frame returns returns-2 returns-3)
+length-fault-spec = tie.close (tie.spec new-requires enum-told add-if1 returns returns-2 returns-3)

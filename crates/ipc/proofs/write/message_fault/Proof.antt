@@ -1,16 +1,16 @@
 -- `ipc::write::message_fault` meets its contract.
 -- Assumes nothing.
-use Prim.Native.Nat.{ℕ, _≤_, _<_}
+use Prim.Native.Nat.{ℕ}
 use mathlib.Core.Bool.{Bool, true, false}
 use mathlib.Core.List.{List}
 use mathlib.Core.Path.{_≡_, refl, sym, ap, _∙_}
-use borrow.Author.Needs.{needs}
-use borrow.Author.Tests.{le-leb, lt-leb}
+use lib.Dec.{leb}
 use Rattle.ipc.specs.declared.keys.Class.{Class}
 use Rattle.ipc.specs.declared.write.Given.{Given}
 use Rattle.ipc.specs.Ids.{largestTag}
 use Rattle.ipc.specs.Keys.{classOf, isWritten}
 use Rattle.ipc.specs.Write.{valueFits, messageFault}
+use borrow.Author.Needs.{needs}
 use Rattle.ipc.proofs.write.message_fault.Statement.{statement}
 use Rattle.ipc.proofs.write.message_fault.Tie as tie
 
@@ -25,13 +25,13 @@ module _ (key : ℕ) (given : Given) (s : List ℕ) (tag : ℕ) where
     fault-41 v = rw (w, v) refl
 
     module _ (v : valueFits (classOf key) given s ≡ true) where
-      fault-42 : largestTag < tag → 42 ≡ messageFault key given s tag
+      fault-42 : leb tag largestTag ≡ false → 42 ≡ messageFault key given s tag
       unfolding messageFault
-      fault-42 h = rw (w, v, lt-leb tag largestTag h) refl
+      fault-42 h = rw (w, v, h) refl
 
-      fault-none : tag ≤ largestTag → 0 ≡ messageFault key given s tag
+      fault-none : leb tag largestTag ≡ true → 0 ≡ messageFault key given s tag
       unfolding messageFault
-      fault-none h = rw (w, v, le-leb tag largestTag h) refl
+      fault-none h = rw (w, v, h) refl
 
 -- what the test of the value says
 fits-as : (class : Class) (given : Given) (s : List ℕ) (key : ℕ) (r t : Bool) → class ≡ classOf key → r ≡ valueFits class given s → r ≡ t → valueFits (classOf key) given s ≡ t
@@ -46,29 +46,30 @@ class-of-requires c κs = search needs
 value-fits-requires : tie.Need-value-fits-requires
 value-fits-requires c κs = search needs
 
-cast-if3 : tie.Need-cast-if3
-cast-if3 c = search needs
+tag-fits-requires : tie.Need-tag-fits-requires
+tag-fits-requires c κs = search needs
 
 returns : tie.Need-returns
-returns c =
-    let a = c .before .before .before .before .before .before .before .args in
-    fault-none (a .key) (a .given) (a .s .now) (a .tag) (sym (c .before .before .before .before .before .is-written .ensures) ∙ c .before .before .before .before .if1 .taken) (fits-as (c .before .before .before .class-of .result) (a .given) (a .s .now) (a .key) (c .before .before .value-fits .result) true (c .before .before .before .class-of .ensures) (c .before .before .value-fits .ensures) (c .before .if2 .taken)) (c .if3 .taken)
+returns c = fault-none (c .before .before .before .before .before .before .before .before .args .key) (c .before .before .before .before .before .before .before .before .args .given) (c .before .before .before .before .before .before .before .before .args .s .now) (c .before .before .before .before .before .before .before .before .args .tag) (sym (c .before .before .before .before .before .before .is-written .ensures) ∙ c .before .before .before .before .before .if1 .taken) (fits-as (c .before .before .before .before .class-of .result) (c .before .before .before .before .before .before .before .before .args .given) (c .before .before .before .before .before .before .before .before .args .s .now) (c .before .before .before .before .before .before .before .before .args .key) (c .before .before .before .value-fits .result) true (c .before .before .before .before .class-of .ensures) (c .before .before .before .value-fits .ensures) (c .before .before .if2 .taken)) (sym (c .before .tag-fits .ensures) ∙ c .if3 .taken)
 
 returns-2 : tie.Need-returns-2
-returns-2 c =
-    let a = c .before .before .before .before .before .before .before .args in
-    fault-42 (a .key) (a .given) (a .s .now) (a .tag) (sym (c .before .before .before .before .before .is-written .ensures) ∙ c .before .before .before .before .if1 .taken) (fits-as (c .before .before .before .class-of .result) (a .given) (a .s .now) (a .key) (c .before .before .value-fits .result) true (c .before .before .before .class-of .ensures) (c .before .before .value-fits .ensures) (c .before .if2 .taken)) (c .if3 .left)
+returns-2 c = fault-42 (c .before .before .before .before .before .before .before .before .args .key) (c .before .before .before .before .before .before .before .before .args .given) (c .before .before .before .before .before .before .before .before .args .s .now) (c .before .before .before .before .before .before .before .before .args .tag) (sym (c .before .before .before .before .before .before .is-written .ensures) ∙ c .before .before .before .before .before .if1 .taken) (fits-as (c .before .before .before .before .class-of .result) (c .before .before .before .before .before .before .before .before .args .given) (c .before .before .before .before .before .before .before .before .args .s .now) (c .before .before .before .before .before .before .before .before .args .key) (c .before .before .before .value-fits .result) true (c .before .before .before .before .class-of .ensures) (c .before .before .before .value-fits .ensures) (c .before .before .if2 .taken)) (sym (c .before .tag-fits .ensures) ∙ c .if3 .left)
 
 returns-3 : tie.Need-returns-3
-returns-3 c =
-    let a = c .before .before .before .before .before .before .args in
-    fault-41 (a .key) (a .given) (a .s .now) (a .tag) (sym (c .before .before .before .before .is-written .ensures) ∙ c .before .before .before .if1 .taken) (fits-as (c .before .before .class-of .result) (a .given) (a .s .now) (a .key) (c .before .value-fits .result) false (c .before .before .class-of .ensures) (c .before .value-fits .ensures) (c .if2 .left))
+returns-3 c = fault-41 (c .before .before .before .before .before .before .args .key) (c .before .before .before .before .before .before .args .given) (c .before .before .before .before .before .before .args .s .now) (c .before .before .before .before .before .before .args .tag) (sym (c .before .before .before .before .is-written .ensures) ∙ c .before .before .before .if1 .taken) (fits-as (c .before .before .class-of .result) (c .before .before .before .before .before .before .args .given) (c .before .before .before .before .before .before .args .s .now) (c .before .before .before .before .before .before .args .key) (c .before .value-fits .result) false (c .before .before .class-of .ensures) (c .before .value-fits .ensures) (c .if2 .left))
 
 returns-4 : tie.Need-returns-4
-returns-4 c =
-    let a = c .before .before .before .args in
-    fault-40 (a .key) (a .given) (a .s .now) (a .tag) (sym (c .before .is-written .ensures) ∙ c .if1 .left)
+returns-4 c = fault-40 (c .before .before .before .args .key) (c .before .before .before .args .given) (c .before .before .before .args .s .now) (c .before .before .before .args .tag) (sym (c .before .is-written .ensures) ∙ c .if1 .left)
 
 pub message-fault-spec : {M : Type 1} → statement M
 message-fault-spec =
-    tie.close (tie.spec is-written-requires class-of-requires value-fits-requires cast-if3 returns returns-2 returns-3 returns-4)
+    tie.close
+    (tie.spec
+    is-written-requires
+    class-of-requires
+    value-fits-requires
+    tag-fits-requires
+    returns
+    returns-2
+    returns-3
+    returns-4)

@@ -1,0 +1,38 @@
+-- Ranges of versions, and the version that two of them agree on (document 01, 'The message').
+-- Assumes nothing.
+use Prim.Native.Nat.{ℕ, _≤_, min, max}
+use mathlib.Core.Bool.{cond, _&&_}
+use lib.Dec.{leb}
+use lib.IntN.{ℤ, pos, natAbs}
+use lib.Signed.{leZ}
+use Rattle.ipc.specs.declared.versions.Versions.{Versions}
+use Rattle.ipc.specs.declared.versions.OptionalVersions.{OptionalVersions}
+
+abbrev pub largestVersion : ℕ
+largestVersion = 2147483647
+
+-- the versions from one number to another: 1 ≤ low ≤ high ≤ the largest
+unfoldable pub rangeOf : ℤ → ℤ → OptionalVersions
+rangeOf low high =
+    cond (leZ (pos 1) low && (leZ low high && leZ high (pos largestVersion)))
+    (OptionalVersions.Range (record { min = natAbs low; max = natAbs high }))
+    OptionalVersions.None
+
+-- the largest number in two ranges, and 0 where there is none
+abbrev pub largestCommon : Versions → Versions → ℕ
+largestCommon v w = cond (leb (max (v .min) (w .min)) (min (v .max) (w .max))) (min (v .max) (w .max)) 0
+
+abbrev pub agreed : OptionalVersions → OptionalVersions → ℕ
+agreed (OptionalVersions.Range v) (OptionalVersions.Range w) = largestCommon v w
+agreed (OptionalVersions.Range v) OptionalVersions.None = 0
+agreed OptionalVersions.None x = 0
+
+-- the agreed version: 0 if there is none or if either is no range
+unfoldable pub agreedVersion : ℕ → ℕ → ℕ → ℕ → ℕ
+agreedVersion low high low2 high2 = agreed (rangeOf (pos low) (pos high)) (rangeOf (pos low2) (pos high2))
+
+-- there is a range from one number to another
+pub record IsRange (low high : ℕ) : Type 0 where
+  pub positive : 1 ≤ low
+  pub ordered : low ≤ high
+  pub small : high ≤ largestVersion
