@@ -1,6 +1,8 @@
 -- Ranges of versions, and the version that two of them agree on (document 01, 'The message').
 -- Assumes nothing.
 use Prim.Native.Nat.{ℕ, _≤_, min, max}
+use mathlib.Core.Path.{_≡_}
+use mathlib.Core.Logic.{_↔_}
 use mathlib.Core.Bool.{cond, _&&_}
 use lib.Dec.{leb}
 use lib.IntN.{ℤ, pos, natAbs}
@@ -31,8 +33,25 @@ agreed OptionalVersions.None x = 0
 unfoldable pub agreedVersion : ℕ → ℕ → ℕ → ℕ → ℕ
 agreedVersion low high low2 high2 = agreed (rangeOf (pos low) (pos high)) (rangeOf (pos low2) (pos high2))
 
+-- ---- the statement
 -- there is a range from one number to another
 pub record IsRange (low high : ℕ) : Type 0 where
   pub positive : 1 ≤ low
   pub ordered : low ≤ high
   pub small : high ≤ largestVersion
+
+-- a number is in a range
+pub record InRange (low high n : ℕ) : Type 0 where
+  pub range : IsRange low high
+  pub above : low ≤ n
+  pub below : n ≤ high
+
+abbrev pub InBoth : ℕ → ℕ → ℕ → ℕ → ℕ → Type 0
+InBoth low high low2 high2 n = InRange low high n × InRange low2 high2 n
+
+-- the agreed version is in both ranges and no larger number is; it is 0 exactly where no number is, or either is no range
+abbrev pub AgreesOnLargest : Type 0
+AgreesOnLargest = (low high low2 high2 : ℕ)
+    → ((agreedVersion low high low2 high2 ≡ 0 → ⊥) → InBoth low high low2 high2 (agreedVersion low high low2 high2))
+    × ((n : ℕ) → InBoth low high low2 high2 n → n ≤ agreedVersion low high low2 high2)
+    × ((agreedVersion low high low2 high2 ≡ 0) ↔ ((n : ℕ) → InBoth low high low2 high2 n → ⊥))
