@@ -68,6 +68,16 @@ sized-small n l e = go (ltb protocolPayload n) (ltb largestPayload n) refl e
         let is : record { 0 = n } ≡ l = cc in
         omega (arith, ap (λ (k : PayloadLength). k .0) is)
 
+-- and is the number itself
+pub sized-same : (n : ℕ) (l : PayloadLength) → sized n ≡ Sized.Length l → l .0 ≡ n
+unfolding sized
+sized-same n l e = go (ltb protocolPayload n) (ltb largestPayload n) e
+  where
+    go : (t u : Bool) → cond t Sized.OverProtocol (cond u Sized.OverLimit (Sized.Length (record { 0 = n }))) ≡ Sized.Length l → l .0 ≡ n
+    go true u e = let z : _≡_ {A = ℕ} 0 1 = cc in absurd (omega arith)
+    go false true e = let z : _≡_ {A = ℕ} 0 1 = cc in absurd (omega arith)
+    go false false e = let is : record { 0 = n } ≡ l = cc in sym (ap (λ (k : PayloadLength). k .0) is)
+
 pub sized-fits : (n : ℕ) → n ≤ largestPayload → sized n ≡ Sized.Length (record { 0 = n })
 unfolding sized
 sized-fits n h = rw (le-ltb protocolPayload n (omega arith), le-ltb largestPayload n h) refl

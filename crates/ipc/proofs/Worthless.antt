@@ -22,6 +22,7 @@ use Rattle.ipc.specs.Keys.{listed, classOf, isWritten}
 use Rattle.ipc.specs.Tries.{tries}
 use Rattle.ipc.specs.Write.{frameOf, fitted}
 use Rattle.ipc.specs.Demands.{hexFrom, AcceptsExactlyFor, GivenFits, Writer, writer, WritesBackFor}
+use Rattle.ipc.specs.Versions.{rangeOf}
 use Rattle.ipc.specs.Worthless.{RefusingReaderFalls, ConstantReaderFalls, InventedCountFalls, oneMore, OneMoreFalls, HandshakeOneMoreFalls, RefusingWriterFalls}
 use Rattle.ipc.proofs.Accepts.{accepts-exactly, answers-by-row}
 use Rattle.ipc.proofs.HexLaws.{header-length, from-header}
@@ -97,7 +98,7 @@ one-more-falls reads =
     omega (arith, ap (λ (x : Answer). x .consumed) (sym (ours .1) ∙ theirs .1))
 
 handshake-counted : handshakeWritten 1 2 37 ≡ Written.Count 37
-unfolding handshakeWritten fitted handshakePayload encode decimal decimalBefore ascii frameOf hexHeader hexIn
+unfolding handshakeWritten rangeOf fitted handshakePayload encode decimal decimalBefore ascii frameOf hexHeader hexIn
 handshake-counted = refl
 
 pub handshake-one-more-falls : HandshakeOneMoreFalls
