@@ -12,23 +12,19 @@ use Rattle.bencode.specs.Numeral.{digits, numeralAt, decimal, decimalBefore}
 use Rattle.bencode.specs.Value.{encode}
 use Rattle.bencode.specs.String.{stringAt}
 use Rattle.bencode.specs.Integer.{integerAt, integerFrom}
-use Rattle.bencode.specs.Bytes.{same, less}
-use Rattle.bencode.specs.Key.{isUsed, isAbove, keyFault}
+use Rattle.bencode.specs.Bytes.{same}
 use Rattle.bencode.specs.Scalar.{scalarAt}
 use Rattle.bencode.specs.Loop.{repeat}
 use Rattle.bencode.specs.Skip.{skipFrom}
 use Rattle.bencode.specs.Item.{itemAt}
-use Rattle.bencode.specs.Walk.{listFrom, dictionaryFrom, valueAt, payloadAt}
-use Rattle.bencode.specs.Entry.{entryAt}
-use Rattle.bencode.specs.Field.{fieldAt, fieldOf}
+use Rattle.bencode.specs.Walk.{listFrom, valueAt, payloadAt}
 use Rattle.bencode.specs.Ascii.{ascii}
 use Rattle.ipc.specs.Hex.{hexDigit, hexHeader, hexIn}
 use Rattle.ipc.specs.Header.{hexValue, headerIn, readHeader, sized}
 use Rattle.ipc.specs.Ids.{tagOf, torrentIdOf}
 use Rattle.ipc.specs.Keys.{listed as keys, numberFrom, keyNumber, keyText, classOf}
-use Rattle.ipc.specs.Format.{idEnd, torrentEnd, itemEnd, itemsEnd, listPart, formatted}
+use Rattle.ipc.specs.Format.{idEnd, itemEnd, itemsEnd, listPart, formatted}
 use Rattle.ipc.specs.Message.{tailAt, messageReading}
-use Rattle.ipc.specs.Handshake.{rangeOf, rangeAt, dictionaryVersions, handshakeReading}
 use Rattle.ipc.specs.Frame.{payloadReading, lengthReading, frameReading, readFrame}
 use Rattle.ipc.specs.Write.{encodeGiven, encodeTag, payloadOf, frameOf}
 use Rattle.desk.specs.Machine.{Machine, request, aloneAfter, listed, obey, idsFrom, idsIn, limitCommand, idsCommand, contentCommand, commandIn, obeying, takes, handed}
@@ -76,18 +72,18 @@ never-writes-falls demand =
     omega arith
 
 pub held-writes-falls : HeldWritesFalls
-unfolding downOf heldWrites turns turn after afterOpening atOpening standingAfter overridden aloneAfter request returned bufferAfter outcome decided framed delivered plan deskAfter commandsOf raiseCommands clearCommands callFault sound limitsSound listSound withDown withOverride opening openCode openedWith places fault unused has place marked filtered isId isLimit framesOf commandFrame listing messageFrame frameOf payloadOf flatten hexHeader hexIn keyText encodeGiven encodeTag idList values encode decimal decimalBefore handed takes obeying commandIn contentCommand idsCommand limitCommand idsIn idsFrom obey listed frameReading skipFrom itemAt readFrame lengthReading payloadReading ascii hexValue headerIn readHeader sized hexDigit tagOf torrentIdOf keys numberFrom keyNumber classOf entryAt fieldAt fieldOf idEnd torrentEnd itemEnd itemsEnd listPart formatted tailAt messageReading rangeOf rangeAt dictionaryVersions handshakeReading payloadAt valueAt scalarAt integerAt integerFrom numeralAt digits stringAt listFrom dictionaryFrom repeat keyFault isUsed isAbove same less
+unfolding downOf heldWrites turns turn after afterOpening atOpening standingAfter overridden aloneAfter request returned bufferAfter outcome decided framed delivered plan deskAfter commandsOf raiseCommands clearCommands callFault sound limitsSound listSound withDown withOverride opening openCode openedWith places fault unused has place marked filtered isId isLimit framesOf commandFrame listing messageFrame frameOf payloadOf flatten hexHeader hexIn keyText encodeGiven encodeTag idList values encode decimal decimalBefore handed takes obeying commandIn contentCommand idsCommand limitCommand idsIn idsFrom obey listed frameReading skipFrom itemAt readFrame lengthReading payloadReading ascii hexValue headerIn readHeader sized hexDigit tagOf torrentIdOf keys numberFrom keyNumber classOf idEnd itemEnd itemsEnd listPart formatted tailAt messageReading payloadAt valueAt scalarAt integerAt integerFrom numeralAt digits stringAt listFrom repeat same
 held-writes-falls demand =
     let z : _≡_ {A = ℕ} 5 1 = ap downOf (demand list (pos 1) (pos 2) (λ x. false) (lent (Call.Raise 3) ∷ lent (Call.Down (pos 5)) ∷ []) list-opened .1 3 refl) in
     omega arith
 
 pub second-raise-falls : SecondRaiseFalls
-unfolding runsOf secondRaise turns turn after afterOpening atOpening standingAfter overridden aloneAfter request returned bufferAfter outcome decided framed delivered plan deskAfter commandsOf raiseCommands clearCommands callFault sound limitsSound listSound withDown withOverride opening openCode openedWith places fault unused has place marked filtered isId isLimit framesOf commandFrame listing messageFrame frameOf payloadOf flatten hexHeader hexIn keyText encodeGiven encodeTag idList values encode decimal decimalBefore handed takes obeying commandIn contentCommand idsCommand limitCommand idsIn idsFrom obey listed frameReading skipFrom itemAt readFrame lengthReading payloadReading ascii hexValue headerIn readHeader sized hexDigit tagOf torrentIdOf keys numberFrom keyNumber classOf entryAt fieldAt fieldOf idEnd torrentEnd itemEnd itemsEnd listPart formatted tailAt messageReading rangeOf rangeAt dictionaryVersions handshakeReading payloadAt valueAt scalarAt integerAt integerFrom numeralAt digits stringAt listFrom dictionaryFrom repeat keyFault isUsed isAbove same less
+unfolding runsOf secondRaise turns turn after afterOpening atOpening standingAfter overridden aloneAfter request returned bufferAfter outcome decided framed delivered plan deskAfter commandsOf raiseCommands clearCommands callFault sound limitsSound listSound withDown withOverride opening openCode openedWith places fault unused has place marked filtered isId isLimit framesOf commandFrame listing messageFrame frameOf payloadOf flatten hexHeader hexIn keyText encodeGiven encodeTag idList values encode decimal decimalBefore handed takes obeying commandIn contentCommand idsCommand limitCommand idsIn idsFrom obey listed frameReading skipFrom itemAt readFrame lengthReading payloadReading ascii hexValue headerIn readHeader sized hexDigit tagOf torrentIdOf keys numberFrom keyNumber classOf idEnd itemEnd itemsEnd listPart formatted tailAt messageReading payloadAt valueAt scalarAt integerAt integerFrom numeralAt digits stringAt listFrom repeat same
 second-raise-falls demand =
     false≢true (sym (ap (runsOf 8) (demand list (pos 1) (pos 2) (λ x. false) (lent (Call.Raise 3) ∷ lent (Call.Raise 8) ∷ []) list-opened .1 3 refl)))
 
 pub restores-once-falls : RestoresOnceFalls
-unfolding downOf restoresOnce turns turn after afterOpening atOpening standingAfter overridden aloneAfter request returned bufferAfter outcome decided framed delivered plan deskAfter commandsOf raiseCommands clearCommands callFault sound limitsSound listSound withDown withOverride opening openCode openedWith places fault unused has place marked filtered isId isLimit framesOf commandFrame listing messageFrame frameOf payloadOf flatten hexHeader hexIn keyText encodeGiven encodeTag idList values encode decimal decimalBefore handed takes obeying commandIn contentCommand idsCommand limitCommand idsIn idsFrom obey listed frameReading skipFrom itemAt readFrame lengthReading payloadReading ascii hexValue headerIn readHeader sized hexDigit tagOf torrentIdOf keys numberFrom keyNumber classOf entryAt fieldAt fieldOf idEnd torrentEnd itemEnd itemsEnd listPart formatted tailAt messageReading rangeOf rangeAt dictionaryVersions handshakeReading payloadAt valueAt scalarAt integerAt integerFrom numeralAt digits stringAt listFrom dictionaryFrom repeat keyFault isUsed isAbove same less
+unfolding downOf restoresOnce turns turn after afterOpening atOpening standingAfter overridden aloneAfter request returned bufferAfter outcome decided framed delivered plan deskAfter commandsOf raiseCommands clearCommands callFault sound limitsSound listSound withDown withOverride opening openCode openedWith places fault unused has place marked filtered isId isLimit framesOf commandFrame listing messageFrame frameOf payloadOf flatten hexHeader hexIn keyText encodeGiven encodeTag idList values encode decimal decimalBefore handed takes obeying commandIn contentCommand idsCommand limitCommand idsIn idsFrom obey listed frameReading skipFrom itemAt readFrame lengthReading payloadReading ascii hexValue headerIn readHeader sized hexDigit tagOf torrentIdOf keys numberFrom keyNumber classOf idEnd itemEnd itemsEnd listPart formatted tailAt messageReading payloadAt valueAt scalarAt integerAt integerFrom numeralAt digits stringAt listFrom repeat same
 restores-once-falls demand =
     let raise = lent (Call.Raise 3) in
     let clear = lent Call.Clear in
@@ -96,7 +92,7 @@ restores-once-falls demand =
     omega arith
 
 pub restores-copy-falls : RestoresCopyFalls
-unfolding downOf restoresCopy turns turn after afterOpening atOpening standingAfter overridden aloneAfter request returned bufferAfter outcome decided framed delivered plan deskAfter commandsOf raiseCommands clearCommands callFault sound limitsSound listSound withDown withOverride opening openCode openedWith places fault unused has place marked filtered isId isLimit framesOf commandFrame listing messageFrame frameOf payloadOf flatten hexHeader hexIn keyText encodeGiven encodeTag idList values encode decimal decimalBefore handed takes obeying commandIn contentCommand idsCommand limitCommand idsIn idsFrom obey listed frameReading skipFrom itemAt readFrame lengthReading payloadReading ascii hexValue headerIn readHeader sized hexDigit tagOf torrentIdOf keys numberFrom keyNumber classOf entryAt fieldAt fieldOf idEnd torrentEnd itemEnd itemsEnd listPart formatted tailAt messageReading rangeOf rangeAt dictionaryVersions handshakeReading payloadAt valueAt scalarAt integerAt integerFrom numeralAt digits stringAt listFrom dictionaryFrom repeat keyFault isUsed isAbove same less
+unfolding downOf restoresCopy turns turn after afterOpening atOpening standingAfter overridden aloneAfter request returned bufferAfter outcome decided framed delivered plan deskAfter commandsOf raiseCommands clearCommands callFault sound limitsSound listSound withDown withOverride opening openCode openedWith places fault unused has place marked filtered isId isLimit framesOf commandFrame listing messageFrame frameOf payloadOf flatten hexHeader hexIn keyText encodeGiven encodeTag idList values encode decimal decimalBefore handed takes obeying commandIn contentCommand idsCommand limitCommand idsIn idsFrom obey listed frameReading skipFrom itemAt readFrame lengthReading payloadReading ascii hexValue headerIn readHeader sized hexDigit tagOf torrentIdOf keys numberFrom keyNumber classOf idEnd itemEnd itemsEnd listPart formatted tailAt messageReading payloadAt valueAt scalarAt integerAt integerFrom numeralAt digits stringAt listFrom repeat same
 restores-copy-falls demand =
     let z : _≡_ {A = ℕ} 1 5 = ap downOf (demand list (pos 1) (pos 2) (λ x. false) (lent (Call.Raise 3) ∷ lent (Call.Down (pos 5)) ∷ lent Call.Clear ∷ []) list-opened .0 refl) in
     omega arith
