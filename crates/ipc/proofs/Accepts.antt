@@ -19,6 +19,7 @@ use Rattle.bencode.specs.Walk.{payloadAt}
 use Rattle.bencode.specs.Value.{Value, integer, string, list, dictionary, encode, WellFormed}
 use Rattle.bencode.proofs.Grammar.{accepts-exactly as payload-accepts}
 use Rattle.bencode.proofs.JudgeLaws.{walked-whole}
+use Rattle.bencode.proofs.Lookups.{starts, items-begin, entries-begin}
 use Rattle.ipc.specs.declared.header.Header.{Header}
 use Rattle.ipc.specs.declared.header.Sized.{Sized}
 use Rattle.ipc.specs.Answer.{Answer, refused, answerOf}
@@ -32,7 +33,6 @@ use Rattle.ipc.proofs.Messages.{message-means}
 use Rattle.bencode.specs.Key.{isFaultCode}
 use Rattle.bencode.proofs.Order.{clash}
 use Rattle.bencode.proofs.FaultCodes.{faults-coded}
-use Rattle.bencode.proofs.Lookups.{starts, items-begin, entries-begin}
 use Rattle.ipc.proofs.Handshakes.{handshake-means}
 
 -- ---- payloads

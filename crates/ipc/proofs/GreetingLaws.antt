@@ -8,10 +8,10 @@ use lib.IntN.{pos}
 use lib.ListN.{length, length-append}
 use Rattle.bencode.specs.Numeral.{decimalBefore, decimal}
 use Rattle.bencode.specs.Value.{integer, encode}
+use Rattle.bencode.specs.Ascii.{ascii}
 use Rattle.ipc.specs.declared.versions.Versions.{Versions}
 use Rattle.ipc.specs.declared.versions.OptionalVersions.{OptionalVersions}
 use Rattle.ipc.specs.declared.write.Written.{Written}
-use Rattle.bencode.specs.Ascii.{ascii}
 use Rattle.ipc.specs.Greeting.{handshakePayload, rangeWritten, handshakeWritten}
 use Rattle.ipc.specs.Versions.{rangeOf}
 use Rattle.ipc.specs.Write.{fitted}

@@ -12,11 +12,11 @@ use Rattle.bencode.specs.declared.field.Field.{Field}
 use Rattle.bencode.specs.Field.{fieldOf, ifInteger}
 use Rattle.bencode.proofs.field.Field.{the-type}
 use Rattle.bencode.proofs.FieldLaws.{NoInteger, integer-other}
-use Rattle.ipc.specs.declared.versions.OptionalVersions.{OptionalVersions}
 use Rattle.bencode.specs.Ascii.{ascii}
+use Rattle.bencode.proofs.Ranges.{machine, same}
+use Rattle.ipc.specs.declared.versions.OptionalVersions.{OptionalVersions}
 use Rattle.ipc.specs.Handshake.{rangeAt, versionsIn, dictionaryVersions}
 use Rattle.ipc.specs.Versions.{rangeOf}
-use Rattle.bencode.proofs.Ranges.{machine, same}
 
 module _ (p : List ℕ) (at : ℕ) where
   pub range-no-min : (f : Field) → f ≡ fieldOf p (ascii "min") at → NoInteger f → OptionalVersions.None ≡ rangeAt p at

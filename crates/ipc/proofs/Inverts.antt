@@ -13,14 +13,14 @@ use Rattle.bencode.specs.Bytes.{same, letterL, letterE}
 use Rattle.bencode.specs.Value.{Value, integer, string, list, dictionary, Values, no-value, value, encodeString, encode, encodeAll, lookup}
 use Rattle.bencode.proofs.Encodings.{values-text}
 use Rattle.bencode.proofs.Order.{clash, same-eq}
+use Rattle.bencode.specs.Ascii.{ascii}
+use Rattle.bencode.specs.Integer.{within}
 use Rattle.ipc.specs.declared.ids.OptionalTag.{OptionalTag}
 use Rattle.ipc.specs.declared.ids.Tag.{Tag}
 use Rattle.ipc.specs.declared.format.Checked.{Checked}
 use Rattle.ipc.specs.declared.reading.Value.{Value as MessageValue}
 use Rattle.ipc.specs.declared.versions.OptionalVersions.{OptionalVersions}
 use Rattle.ipc.specs.Answer.{Answer, message, handshake, refused, accepted, tagNumber, contentOf}
-use Rattle.bencode.specs.Ascii.{ascii}
-use Rattle.bencode.specs.Integer.{within}
 use Rattle.ipc.specs.Ids.{largestTag, tagOf}
 use Rattle.ipc.specs.Keys.{keyText, Listed, listed, unlisted, numberFrom, keyNumber, classOf, isWritten}
 use Rattle.ipc.specs.Meaning.{judged, answered, taggedOf, thirdOf, listOf, versionsOf, versionsAnswer, meaning}

@@ -11,8 +11,8 @@ use lib.Seq.{drop-cons, take-at}
 use Rattle.bencode.specs.Bytes.{same}
 use Rattle.bencode.specs.Put.{Put}
 use Rattle.bencode.specs.Value.{encodeString}
-use Rattle.ipc.specs.declared.keys.KeyRow.{KeyRow}
 use Rattle.bencode.specs.Ascii.{ascii}
+use Rattle.ipc.specs.declared.keys.KeyRow.{KeyRow}
 use Rattle.ipc.specs.Keys.{Listed, listed, unlisted, rowOf, rowAt, nameAt, numberFrom, keyNumber, listedAt, classOf, isWritten, keyText}
 
 -- what stands past the end does not matter inside

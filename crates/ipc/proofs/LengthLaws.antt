@@ -14,11 +14,11 @@ use Rattle.bencode.specs.Numeral.{decimalBefore, decimal}
 use Rattle.bencode.specs.Value.{integer, encodeString, encode}
 use Rattle.bencode.proofs.DigitLaws.{lt-or-le}
 use Rattle.bencode.proofs.PutParts.{string-size}
+use Rattle.bencode.proofs.Ranges.{machine, natural-machine, same}
 use Rattle.ipc.specs.declared.keys.Class.{Class}
 use Rattle.ipc.specs.declared.write.Given.{Given}
 use Rattle.ipc.specs.Header.{largestPayload}
 use Rattle.ipc.specs.Write.{encodeGiven, encodeTag}
-use Rattle.bencode.proofs.Ranges.{machine, natural-machine, same}
 
 -- a length that a number gives, added to the number: over the largest payload it does not matter which number gives it
 cut-sum : (more : ℕ → ℕ) (n m : ℕ) → m ≡ min n (largestPayload + 1) → min (m + more m) (largestPayload + 1) ≡ min (more n + n) (largestPayload + 1)

@@ -13,6 +13,8 @@ use Rattle.bencode.specs.String.{stringAt}
 use Rattle.bencode.specs.Integer.{integerAt}
 use Rattle.bencode.specs.declared.item.Item.{Item}
 use Rattle.bencode.specs.Item.{itemAt}
+use Rattle.bencode.proofs.Ranges.{machine, same}
+use Rattle.bencode.proofs.Ends.{integer-fits}
 use Rattle.ipc.specs.declared.ids.Tag.{Tag}
 use Rattle.ipc.specs.declared.ids.OptionalTag.{OptionalTag}
 use Rattle.ipc.specs.declared.message.Tail.{Tail}
@@ -20,8 +22,6 @@ use Rattle.ipc.specs.declared.reading.Reading.{Reading}
 use Rattle.ipc.specs.Ids.{tagOf}
 use Rattle.ipc.specs.Keys.{keyNumber}
 use Rattle.ipc.specs.Message.{tailAt, fromTag, messageReading}
-use Rattle.bencode.proofs.Ranges.{machine, same}
-use Rattle.bencode.proofs.Ends.{integer-fits}
 
 module _ (p : List ℕ) (at : ℕ) where
   pub third-end : byteAt p at ≡ 101 → Tail.Tag OptionalTag.None ≡ tailAt p at

@@ -19,6 +19,7 @@ use Rattle.bencode.specs.Value.{Value, integer, string, list, Values, no-value,
 use Rattle.bencode.proofs.BeginsLaws.{part-begins}
 use Rattle.bencode.proofs.Order.{clash}
 use Rattle.bencode.proofs.Table.{at}
+use Rattle.bencode.specs.Ascii.{ascii}
 use Rattle.ipc.specs.declared.format.Checked.{Checked}
 use Rattle.ipc.specs.declared.ids.OptionalTag.{OptionalTag}
 use Rattle.ipc.specs.declared.keys.Class.{Class}
@@ -27,7 +28,6 @@ use Rattle.ipc.specs.declared.versions.OptionalVersions.{OptionalVersion
 use Rattle.ipc.specs.declared.write.Given.{Given}
 use Rattle.ipc.specs.declared.write.Written.{Written}
 use Rattle.ipc.specs.Answer.{Answer, part, accepted, acceptedHandshake, contentOf}
-use Rattle.bencode.specs.Ascii.{ascii}
 use Rattle.ipc.specs.Frame.{readFrame}
 use Rattle.ipc.specs.Greeting.{handshakeValue, handshakePayload, rangeWritten, handshakeWritten}
 use Rattle.ipc.specs.Header.{headerLength, largestPayload}

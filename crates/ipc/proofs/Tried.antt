@@ -14,11 +14,11 @@ use Rattle.bencode.specs.Skip.{skipFrom}
 use Rattle.bencode.specs.Item.{itemAt}
 use Rattle.bencode.specs.Walk.{listFrom, dictionaryFrom, valueAt, payloadAt}
 use Rattle.bencode.specs.Ascii.{ascii}
+use Rattle.bencode.specs.Field.{fieldAt, fieldOf}
 use Rattle.ipc.specs.Header.{hexValue, headerIn, readHeader, sized}
 use Rattle.ipc.specs.Ids.{tagOf, torrentIdOf}
 use Rattle.ipc.specs.Keys.{listed, numberFrom, keyNumber, keyText, classOf}
 use Rattle.bencode.specs.Entry.{entryAt}
-use Rattle.bencode.specs.Field.{fieldAt, fieldOf}
 use Rattle.ipc.specs.Format.{idEnd, torrentEnd, itemEnd, itemsEnd, listPart, formatted}
 use Rattle.ipc.specs.Message.{tailAt, messageReading}
 use Rattle.ipc.specs.Versions.{rangeOf}

@@ -16,6 +16,7 @@ use Rattle.bencode.specs.Value.{Value, integer, string, list, dictionary, Value
 use Rattle.bencode.proofs.BeginsLaws.{part-begins}
 use Rattle.bencode.proofs.Lookups.{reads-string}
 use Rattle.bencode.proofs.Order.{clash}
+use Rattle.bencode.specs.Integer.{within}
 use Rattle.ipc.specs.declared.format.Checked.{Checked}
 use Rattle.ipc.specs.declared.keys.Class.{Class}
 use Rattle.ipc.specs.declared.reading.Value.{Value as MessageValue}
@@ -25,7 +26,6 @@ use Rattle.ipc.specs.Answer.{Answer, Content, accepted, contentOf}
 use Rattle.ipc.specs.Format.{largestPort}
 use Rattle.ipc.specs.Header.{headerLength, largestPayload}
 use Rattle.ipc.specs.Hex.{hexHeader, upper, upperHeader}
-use Rattle.bencode.specs.Integer.{within}
 use Rattle.ipc.specs.Ids.{largestTag}
 use Rattle.ipc.specs.Keys.{keyText, Listed, listed, unlisted, keyNumber, classOf, isWritten}
 use Rattle.ipc.specs.Meaning.{isId, every, wholeAt, asInteger, asText, asList, judged}

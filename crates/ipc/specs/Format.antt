@@ -13,12 +13,12 @@ use Rattle.bencode.specs.Loop.{Step, next, done, itemsFrom}
 use Rattle.bencode.specs.String.{stringAt}
 use Rattle.bencode.specs.Skip.{skipRest}
 use Rattle.bencode.specs.Field.{fieldOf, ifInteger}
+use Rattle.bencode.specs.Ascii.{ascii}
 use Rattle.ipc.specs.declared.keys.Class.{Class}
 use Rattle.ipc.specs.declared.format.Checked.{Checked}
 use Rattle.ipc.specs.declared.format.Items.{Items}
 use Rattle.ipc.specs.declared.format.OptionalEnd.{OptionalEnd}
 use Rattle.ipc.specs.declared.reading.Value.{Value}
-use Rattle.bencode.specs.Ascii.{ascii}
 use Rattle.ipc.specs.Header.{headerLength}
 use Rattle.ipc.specs.Ids.{torrentIdOf}
 use Rattle.ipc.specs.declared.ids.OptionalId.{OptionalId}

@@ -6,9 +6,9 @@ use mathlib.Core.Bool.{Bool, true, false, cond}
 use mathlib.Core.List.{List, [], _∷_, _++_}
 use lib.ListN.{length, getD, replicate}
 use Rattle.bencode.specs.Bytes.{same}
+use Rattle.bencode.specs.Ascii.{ascii}
 use Rattle.ipc.specs.declared.keys.Class.{Class}
 use Rattle.ipc.specs.declared.keys.KeyRow.{KeyRow}
-use Rattle.bencode.specs.Ascii.{ascii}
 
 -- a key: its text, the format of its value, and whether it is written here
 pub record Listed : Type 0 where

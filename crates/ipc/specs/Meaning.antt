@@ -6,15 +6,15 @@ use mathlib.Core.List.{List}
 use lib.IntN.{ℤ}
 use lib.ListN.{length}
 use Rattle.bencode.specs.Value.{Value, integer, string, list, dictionary, Values, no-value, value, encodeString, encode, Found, found, missing, lookup, under, foundInteger}
+use Rattle.bencode.specs.Ascii.{ascii}
+use Rattle.bencode.specs.Integer.{within}
 use Rattle.ipc.specs.declared.keys.Class.{Class}
 use Rattle.ipc.specs.declared.ids.OptionalTag.{OptionalTag}
 use Rattle.ipc.specs.declared.format.Checked.{Checked}
 use Rattle.ipc.specs.declared.reading.Value.{Value as MessageValue}
 use Rattle.ipc.specs.declared.versions.OptionalVersions.{OptionalVersions}
 use Rattle.ipc.specs.Answer.{Answer, refused, accepted, acceptedHandshake, offFormat, tagNumber, contentOf}
-use Rattle.bencode.specs.Ascii.{ascii}
 use Rattle.ipc.specs.Header.{headerLength}
-use Rattle.bencode.specs.Integer.{within}
 use Rattle.ipc.specs.Ids.{largestId, tagOf}
 use Rattle.ipc.specs.Keys.{keyNumber, classOf}
 use Rattle.ipc.specs.Format.{largestPort}

@@ -9,6 +9,7 @@ use lib.IntN.{ℤ, pos}
 use lib.ListN.{length, drop}
 use Rattle.bencode.specs.Bytes.{letterE, letterL, byteAt}
 use Rattle.bencode.specs.Value.{integer, encodeString, encode}
+use Rattle.bencode.specs.Integer.{within}
 use Rattle.ipc.specs.declared.format.Items.{Items}
 use Rattle.ipc.specs.declared.format.OptionalEnd.{OptionalEnd}
 use Rattle.ipc.specs.declared.keys.Class.{Class}
@@ -16,7 +17,6 @@ use Rattle.ipc.specs.declared.write.Given.{Given}
 use Rattle.ipc.specs.declared.write.Written.{Written}
 use Rattle.ipc.specs.Header.{headerLength, largestPayload}
 use Rattle.ipc.specs.Hex.{hexHeader}
-use Rattle.bencode.specs.Integer.{within}
 use Rattle.ipc.specs.Ids.{largestTag}
 use Rattle.ipc.specs.Keys.{keyText, classOf, isWritten}
 use Rattle.ipc.specs.Format.{largestPort, itemsEnd}

@@ -9,9 +9,9 @@ use lib.IntN.{pos}
 use Rattle.bencode.specs.Value.{integer, encode}
 use Rattle.bencode.proofs.PutLaws.{Writing, next-put}
 use Rattle.bencode.specs.Ascii.{ascii}
+use Rattle.bencode.proofs.Ranges.{natural-machine}
 use Rattle.ipc.specs.Hex.{hexHeader}
 use Rattle.ipc.specs.Greeting.{handshakePayload}
-use Rattle.bencode.proofs.Ranges.{natural-machine}
 use Rattle.ipc.proofs.OutcomeLaws.{frame-start, frame-finish}
 use Rattle.ipc.proofs.GreetingLaws.{handshakeParts, handshake-parts}
 use Rattle.ipc.proofs.greeting.put_handshake.Statement.{statement}

@@ -9,10 +9,10 @@ use borrow.Author.Needs.{needs}
 use lib.IntN.{pos}
 use lib.ListN.{length}
 use Rattle.bencode.specs.Value.{integer, encode}
+use Rattle.bencode.proofs.Ranges.{natural-machine}
 use Rattle.ipc.specs.Header.{headerLength, largestPayload}
 use Rattle.ipc.specs.Write.{frameOf}
 use Rattle.ipc.specs.Greeting.{handshakePayload}
-use Rattle.bencode.proofs.Ranges.{natural-machine}
 use Rattle.ipc.proofs.OutcomeLaws.{frame-length, outcome-44, outcome-count}
 use Rattle.ipc.proofs.GreetingLaws.{handshake-length}
 use Rattle.ipc.proofs.greeting.write_range.Statement.{statement}

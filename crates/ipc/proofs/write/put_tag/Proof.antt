@@ -11,8 +11,8 @@ use mir.Syntax.{w64}
 use mir.Val.{toZ}
 use Rattle.bencode.specs.Put.{Put}
 use Rattle.bencode.specs.Value.{integer, encode}
-use Rattle.ipc.specs.Write.{encodeTag}
 use Rattle.bencode.proofs.Ranges.{natural-machine}
+use Rattle.ipc.specs.Write.{encodeTag}
 use Rattle.ipc.proofs.write.put_tag.Statement.{statement}
 use Rattle.ipc.proofs.write.put_tag.Tie as tie
 

@@ -9,10 +9,10 @@ use mir.Syntax.{w64}
 use mir.Val.{SFits}
 use Rattle.bencode.specs.Put.{Put}
 use Rattle.bencode.specs.Value.{integer, encode}
+use Rattle.bencode.proofs.Ranges.{machine, same}
 use Rattle.ipc.specs.declared.keys.Class.{Class}
 use Rattle.ipc.specs.declared.write.Given.{Given}
 use Rattle.ipc.specs.Write.{encodeGiven}
-use Rattle.bencode.proofs.Ranges.{machine, same}
 use Rattle.ipc.proofs.write.put_value.Statement.{statement}
 use Rattle.ipc.proofs.write.put_value.Tie as tie
 
