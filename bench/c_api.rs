@@ -11,8 +11,9 @@ pub const ACCEPTED: u8 = 0;
 pub const INCOMPLETE: u8 = 1;
 pub const NO_DIGIT: u8 = 2;
 pub const OVER_PROTOCOL: u8 = 3;
+pub const OFF_FORMAT: u8 = 22;
 
-/// What is read.
+/// What is read; a refusal is of no kind.
 pub const MESSAGE: u8 = 1;
 pub const HANDSHAKE: u8 = 2;
 

@@ -151,16 +151,16 @@ fn message(frame: &[u8], answer: &Answer) -> String {
 }
 
 fn line(frame: &[u8], answer: &Answer) -> String {
-    match (answer.code, answer.kind) {
-        (c_api::ACCEPTED, c_api::HANDSHAKE) => {
+    match (answer.kind, answer.code) {
+        (c_api::HANDSHAKE, _) => {
             format!("handshake {} to {}", answer.value.min, answer.value.max)
         }
-        (c_api::ACCEPTED, _) => message(frame, answer),
-        (code, c_api::MESSAGE) => {
+        (c_api::MESSAGE, _) => message(frame, answer),
+        (_, c_api::OFF_FORMAT) => {
             let key = KEYS[usize::from(answer.key)];
-            format!("refused {code} at {}, {key}{}", answer.offset, tag(answer))
+            format!("refused 22 at {}, {key}{}", answer.offset, tag(answer))
         }
-        (code, _) => format!("refused {code} at {}", answer.offset),
+        (_, code) => format!("refused {code} at {}", answer.offset),
     }
 }
 

@@ -208,8 +208,7 @@ fn message(payload: &[u8]) -> Option<Answer> {
     }
     let listed = KEYS[1..].iter().position(|row| row.0.as_bytes() == key);
     let key = listed.map_or(0, |place| place + 1);
-    let answer = Answer {
-        kind: c_api::MESSAGE,
+    let named = Answer {
         key: key as u8,
         tag,
         ..Answer::default()
@@ -218,11 +217,15 @@ fn message(payload: &[u8]) -> Option<Answer> {
     let value = &value[..value.len() - after.len()];
     Some(match content(KEYS[key].1, value, start) {
         Some(value) => Answer {
+            kind: c_api::MESSAGE,
             consumed: HEADER_LENGTH + payload.len(),
             value,
-            ..answer
+            ..named
         },
-        None => Answer { code: 22, ..answer },
+        None => Answer {
+            code: c_api::OFF_FORMAT,
+            ..named
+        },
     })
 }
 

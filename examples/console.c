@@ -144,16 +144,16 @@ static void print_message(const uint8_t *frame, const struct bogsilver_answer *a
 static void print_answer(const uint8_t *frame, const struct bogsilver_answer *answer)
 {
     printf("%" PRIu64 ": ", input.offset);
-    if (answer->code != BOGSILVER_ACCEPTED) {
-        printf("refused %u at %zu", (unsigned)answer->code, answer->offset);
-        if (answer->kind == BOGSILVER_MESSAGE) {
-            printf(", %s", KEYS[answer->key]);
-            print_tag(answer->tag);
-        }
+    if (answer->kind == BOGSILVER_MESSAGE) {
+        print_message(frame, answer);
     } else if (answer->kind == BOGSILVER_HANDSHAKE) {
         printf("handshake %" PRIu32 " to %" PRIu32, answer->value.min, answer->value.max);
     } else {
-        print_message(frame, answer);
+        printf("refused %u at %zu", (unsigned)answer->code, answer->offset);
+        if (answer->code == BOGSILVER_OFF_FORMAT) {
+            printf(", %s", KEYS[answer->key]);
+            print_tag(answer->tag);
+        }
     }
     putchar('\n');
 }

@@ -54,7 +54,7 @@ enum {
     BOGSILVER_NO_ROOM = 44
 };
 
-/* What is read. */
+/* What is read; a refusal is of no kind. */
 enum { BOGSILVER_NO_KIND = 0, BOGSILVER_MESSAGE = 1, BOGSILVER_HANDSHAKE = 2 };
 
 /* Kinds of value in an answer. */
@@ -107,7 +107,7 @@ struct bogsilver_content {
 /* The reader's answer. What it does not name is 0. */
 struct bogsilver_answer {
     uint8_t code;
-    uint8_t kind;    /* also for code 22, which is of a message */
+    uint8_t kind;    /* 0 for every refusal, code 22 too */
     uint8_t key;     /* also for code 22 */
     uint32_t tag;    /* 0: none; also for code 22 */
     size_t offset;   /* of the fault: for code 2 in the header, for 5 to 9 from the payload's start */
@@ -122,9 +122,10 @@ struct bogsilver_write_answer {
 };
 
 /*
- * Reads the frame at the front of the bytes. Bytes after it are left for the next read. A refusal consumes nothing: after 1 call
- * again with more bytes; after 4 to 22 the next frame starts BOGSILVER_HEADER_LENGTH and the header's number of bytes further;
- * after 2 and 3 no next frame can be found.
+ * Reads the frame at the front of the bytes. Bytes after it are left for the next read. An accepted frame is a message or a
+ * handshake; a refusal is of no kind, and names a key and a tag for code 22 alone, where the message's value is off its key's
+ * format. A refusal consumes nothing: after 1 call again with more bytes; after 4 to 22 the next frame starts
+ * BOGSILVER_HEADER_LENGTH and the header's number of bytes further; after 2 and 3 no next frame can be found.
  */
 struct bogsilver_answer bogsilver_read(const uint8_t *bytes, size_t length);
 

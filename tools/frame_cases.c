@@ -34,7 +34,9 @@ static void print_value(const struct bogsilver_content *value)
 static void print_reading(size_t length)
 {
     struct bogsilver_answer a = bogsilver_read(body, length);
-    const char *kind = a.kind == BOGSILVER_MESSAGE ? "m" : a.kind == BOGSILVER_HANDSHAKE ? "h" : "-";
+    /* a line names the message of a value off its format too */
+    int message = a.kind == BOGSILVER_MESSAGE || a.code == BOGSILVER_OFF_FORMAT;
+    const char *kind = message ? "m" : a.kind == BOGSILVER_HANDSHAKE ? "h" : "-";
     printf("%u %zu %zu %s %u %" PRIu32 " ", a.code, a.offset, a.consumed, kind, a.key, a.tag);
     print_value(&a.value);
     printf("\n");

@@ -12,7 +12,7 @@ use Rattle.ipc.specs.Write.{bufferAfter, frameOf, messageFault, writeAnswer, Ou
 use Rattle.ipc.proofs.KeyLaws.{listed-past}
 use Rattle.c_api.specs.declared.offered.Offered.{Offered}
 use Rattle.c_api.specs.declared.written.WriteAnswer.{WriteAnswer}
-use Rattle.c_api.specs.Numbers.{writtenNumbers, Answered}
+use Rattle.c_api.specs.Written.{writtenNumbers, Answered}
 use Rattle.c_api.specs.Offered.{unknownCode, offeredAnswer, offeredPayload}
 
 -- what a writer did, by numbers

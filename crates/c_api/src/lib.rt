@@ -1,6 +1,4 @@
 // The reader and the writers for C and Rust, on numbers and byte slices. include/bogsilver.h has the C side.
-mod answer;
-mod content;
 mod greeting;
 mod offered;
 mod read;

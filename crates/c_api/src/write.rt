@@ -2,7 +2,7 @@
 ghost use mathlib.Core.Path.{_≡_};
 ghost use lib.ListN.{length};
 ghost use Rattle.ipc.specs.Write.{Outcome};
-ghost use Rattle.c_api.specs.Numbers.{Answered};
+ghost use Rattle.c_api.specs.Written.{Answered};
 ghost use Rattle.c_api.specs.Offered.{offered, unknownCode, offeredAnswer, offeredPayload};
 use super::offered::Offered;
 use super::offered::offered_of;

@@ -5,6 +5,7 @@ mod reading;
 mod written;
 
 use cases::Case;
+use ipc::numbers::numbers_of;
 use reading::print_reading;
 use written::print_agreed;
 use written::print_handshake;
@@ -14,7 +15,7 @@ use written::print_message;
 fn answer_case(operation: u8, body: &[u8], out: &mut [u8]) -> bool {
     match operation {
         b'r' => {
-            print_reading(ipc::read::read(body));
+            print_reading(numbers_of(ipc::read::read(body)));
             true
         }
         b'w' => print_message(body, out),

@@ -8,6 +8,7 @@ pub mod FrameLaws
 pub mod Means
 pub mod Messages
 pub mod Handshakes
+pub mod NumberLaws
 pub mod Accepts
 pub mod Tried
 pub mod HexLaws

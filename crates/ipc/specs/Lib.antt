@@ -2,6 +2,7 @@ pub mod Header
 pub mod Ids
 pub mod Keys
 pub mod Answer
+pub mod Numbers
 pub mod Format
 pub mod Message
 pub mod Versions

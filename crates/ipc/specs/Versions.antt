@@ -40,14 +40,14 @@ pub record IsRange (low high : ℕ) : Type 0 where
   pub ordered : low ≤ high
   pub small : high ≤ largestVersion
 
--- a number is in a range
-pub record InRange (low high n : ℕ) : Type 0 where
+-- a number is in a range: the range has the version
+pub record HasVersion (low high n : ℕ) : Type 0 where
   pub range : IsRange low high
   pub above : low ≤ n
   pub below : n ≤ high
 
 abbrev pub InBoth : ℕ → ℕ → ℕ → ℕ → ℕ → Type 0
-InBoth low high low2 high2 n = InRange low high n × InRange low2 high2 n
+InBoth low high low2 high2 n = HasVersion low high n × HasVersion low2 high2 n
 
 -- the agreed version is in both ranges and no larger number is; it is 0 exactly where no number is, or either is no range
 abbrev pub AgreesOnLargest : Type 0

@@ -9,6 +9,7 @@ pub mod ids;
 pub mod keys;
 mod lengths;
 mod message;
+pub mod numbers;
 pub mod read;
 pub mod reading;
 pub mod versions;

@@ -3,18 +3,18 @@
 use mathlib.Core.Path.{ap, _∙_}
 use borrow.Author.Needs.{needs}
 use Rattle.ipc.specs.Answer.{Answer}
-use Rattle.c_api.specs.Numbers.{numbers}
+use Rattle.ipc.specs.Numbers.{numbersOf}
 use Rattle.c_api.proofs.read.bogsilver_read.Statement.{statement}
 use Rattle.c_api.proofs.read.bogsilver_read.Tie as tie
 
 read-requires : tie.Need-read-requires
 read-requires c κs = search needs
 
-answer-of-requires : tie.Need-answer-of-requires
-answer-of-requires c κs = search needs
+numbers-of-requires : tie.Need-numbers-of-requires
+numbers-of-requires c κs = search needs
 
 returns : tie.Need-returns
-returns c = c .answer-of .ensures ∙ ap (λ (x : Answer). numbers x) (c .before .read .ensures .1)
+returns c = c .numbers-of .ensures ∙ ap (λ (x : Answer). numbersOf x) (c .before .read .ensures .1)
 
 pub bogsilver-read-spec : {M : Type 1} → statement M
-bogsilver-read-spec = tie.close (tie.spec read-requires answer-of-requires returns)
+bogsilver-read-spec = tie.close (tie.spec read-requires numbers-of-requires returns)

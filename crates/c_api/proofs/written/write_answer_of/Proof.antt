@@ -2,7 +2,7 @@
 -- Assumes nothing.
 use mathlib.Core.Path.{sym, ap}
 use borrow.Author.Needs.{needs}
-use Rattle.c_api.specs.Numbers.{writtenNumbers}
+use Rattle.c_api.specs.Written.{writtenNumbers}
 use Rattle.c_api.proofs.written.write_answer_of.Statement.{statement}
 use Rattle.c_api.proofs.written.write_answer_of.Tie as tie
 

@@ -1,0 +1,17 @@
+-- What a writer did, as numbers.
+-- Assumes nothing.
+use Prim.Native.Nat.{ℕ}
+use mathlib.Core.Path.{_≡_}
+use mathlib.Core.List.{List}
+use Rattle.ipc.specs.declared.write.Written.{Written}
+use Rattle.ipc.specs.Write.{codeOf, countOf, bufferAfter, frameOf}
+use Rattle.c_api.specs.declared.written.WriteAnswer.{WriteAnswer}
+
+-- a writer's answer
+abbrev pub writtenNumbers : Written → WriteAnswer
+writtenNumbers w = record { code = codeOf w; count = countOf w }
+
+-- its answer, and the whole buffer
+pub record Answered (answer : Written) (payload before : List ℕ) (r : WriteAnswer) (after : List ℕ) : Type 0 where
+  pub answered : r ≡ writtenNumbers answer
+  pub buffer : after ≡ bufferAfter answer (frameOf payload) before
