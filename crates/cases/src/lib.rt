@@ -1,12 +1,30 @@
 // A stream of test cases on standard input, and numbers on standard output: what the conformance programs share.
 // A case is one byte of operation, a length (4 bytes, little-endian) and as many bytes of body.
 ghost use mathlib.Core.Path.{_≡_};
-ghost use mathlib.Core.Bool.{true};
 ghost use Prim.Native.Nat.{_+_, _*_, _≤_, _<_};
 ghost use lib.ListN.{length};
+ghost use Rattle.io.specs.Counts.{Counts};
 ghost use Rattle.cases.specs.Case.{Fits};
 use libc::STDIN_FILENO;
 use libc::STDOUT_FILENO;
+
+// A case that is taken from the stream: its operation and the length of its body.
+pub struct Taken {
+    pub operation: u8,
+    pub length: usize,
+    // The stream ended before it.
+    pub ended: bool,
+}
+
+impl Taken {
+    // The operation where no case is taken; no program has it.
+    pub const NONE: u8 = 0;
+}
+
+// The most bytes of a body, and the most cases of a stream: bounded so that a program is seen to end; no stream has so many.
+pub const ROOM: usize = 131072;
+
+pub const MOST: u32 = 4000000000;
 
 // The next case: its operation and the length of its body, or that there is none.
 pub enum Case {
@@ -27,43 +45,69 @@ pub fn number_of(a: u8, b: u8, c: u8, d: u8) -> usize
     wide(a) + wide(b) * 256 + wide(c) * 65536 + wide(d) * 16777216
 }
 
-// Fills the first n bytes of a buffer from standard input, or says that they are not there.
-fn fill(body: &mut [u8], n: usize) -> bool
-    ensures { λ r. ⌜ (r ≡ true → n ≤ length (now (body .exit))) ⌝ }
+// Takes the body of a case to the start of a buffer, or nothing where it is cut or longer than the buffer.
+fn take_body(operation: u8, length: usize, body: &mut [u8]) -> Taken
+    ensures { λ r. ⌜ Counts (r .length) (now (body .exit)) ⌝ }
 {
-    if body.len() < n {
-        return false;
-    }
-    io::read_full(STDIN_FILENO, &mut body[..n]) == n
-}
-
-// The end of a stream that is cut in a case.
-fn cut() -> Case
-    ensures { λ r. ⌜ r ≡ Case.End ⌝ }
-{
-    print(b"case fault\n");
-    Case::End
-}
-
-// Reads the next case, its body to the start of a buffer. A case that is cut, or longer than the buffer, is the last.
-pub fn next_case(head: &mut [u8; 5], body: &mut [u8]) -> Case
-    ensures { λ r. ⌜ Fits r (length (now (body .exit))) ⌝ }
-{
-    let got = io::read_full(STDIN_FILENO, head);
-    if got == 0 {
-        return Case::End;
-    }
-    if got != 5 {
-        return cut();
-    }
-    let length = number_of(head[1], head[2], head[3], head[4]);
-    if fill(body, length) {
-        return Case::Body {
-            operation: head[0],
-            length,
+    if body.len() < length {
+        return Taken {
+            operation: Taken::NONE,
+            length: 0,
+            ended: false,
         };
     }
-    cut()
+    if io::read_full(STDIN_FILENO, &mut body[..length]) < length {
+        return Taken {
+            operation: Taken::NONE,
+            length: 0,
+            ended: false,
+        };
+    }
+    Taken {
+        operation,
+        length,
+        ended: false,
+    }
+}
+
+// Takes the next case from the stream, its body to the start of a buffer.
+pub fn take_case(body: &mut [u8]) -> Taken
+    ensures { λ r. ⌜ Counts (r .length) (now (body .exit)) ⌝ }
+{
+    let mut head = [0u8; 5];
+    let got = io::read_full(STDIN_FILENO, &mut head);
+    if got < 5 {
+        return Taken {
+            operation: Taken::NONE,
+            length: 0,
+            ended: got == 0,
+        };
+    }
+    let length = number_of(head[1], head[2], head[3], head[4]);
+    take_body(head[0], length, body)
+}
+
+// Whether to go on after a case: it was answered. Says so where it was not.
+pub fn go_on(taken: Taken, answered: bool) -> bool {
+    if !answered && !taken.ended {
+        print(b"case fault\n");
+    }
+    answered
+}
+
+// Takes the next case as an enum; says so where one is cut.
+pub fn next_case(_head: &mut [u8; 5], body: &mut [u8]) -> Case
+    ensures { λ r. ⌜ Fits r (length (now (body .exit))) ⌝ }
+{
+    let taken = take_case(body);
+    if taken.operation == Taken::NONE {
+        go_on(taken, false);
+        return Case::End;
+    }
+    Case::Body {
+        operation: taken.operation,
+        length: taken.length,
+    }
 }
 
 // Says so where a case was not answered, and passes on whether it was.

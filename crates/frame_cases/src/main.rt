@@ -4,7 +4,6 @@ mod number;
 mod reading;
 mod written;
 
-use cases::Case;
 use ipc::numbers::numbers_of;
 use reading::print_reading;
 use written::print_agreed;
@@ -25,27 +24,21 @@ fn answer_case(operation: u8, body: &[u8], out: &mut [u8]) -> bool {
     }
 }
 
-// Reads and answers a case, and says whether to go on.
-fn run_case(head: &mut [u8; 5], body: &mut [u8], out: &mut [u8]) -> bool {
-    match cases::next_case(head, body) {
-        Case::Body { operation, length } => {
-            cases::answered(answer_case(operation, &body[..length], out))
-        }
-        Case::End => false,
-    }
+// Takes and answers a case, and says whether to go on.
+fn run_case(body: &mut [u8], out: &mut [u8]) -> bool {
+    let taken = cases::take_case(body);
+    let length = taken.length;
+    let answered = answer_case(taken.operation, &body[..length], out);
+    cases::go_on(taken, answered)
 }
 
-// The number of cases is bounded so that the program is seen to end; no stream has so many.
 fn main() {
-    let mut head = [0u8; 5];
-    let mut space = [0u8; 131072];
+    let mut space = [0u8; cases::ROOM];
     let body: &mut [u8] = &mut space;
-    let mut room = [0u8; 131072];
+    let mut room = [0u8; cases::ROOM];
     let out: &mut [u8] = &mut room;
-    let mut left: u32 = 4000000000;
-    while 0 < left {
-        left -= 1;
-        if !run_case(&mut head, body, out) {
+    for _ in 0..cases::MOST {
+        if !run_case(body, out) {
             return;
         }
     }

@@ -2,7 +2,6 @@
 // and offset. Operation `l` walks in the loose profile, `s` in the strict one.
 use bencode::fault::Walk;
 use bencode::profile::Profile;
-use cases::Case;
 use cases::print;
 use cases::print_number;
 
@@ -33,25 +32,19 @@ fn answer_case(operation: u8, payload: &[u8]) -> bool {
     false
 }
 
-// Reads and answers a case, and says whether to go on.
-fn run_case(head: &mut [u8; 5], body: &mut [u8]) -> bool {
-    match cases::next_case(head, body) {
-        Case::Body { operation, length } => {
-            cases::answered(answer_case(operation, &body[..length]))
-        }
-        Case::End => false,
-    }
+// Takes and answers a case, and says whether to go on.
+fn run_case(body: &mut [u8]) -> bool {
+    let taken = cases::take_case(body);
+    let length = taken.length;
+    let answered = answer_case(taken.operation, &body[..length]);
+    cases::go_on(taken, answered)
 }
 
-// The number of cases is bounded so that the program is seen to end; no stream has so many.
 fn main() {
-    let mut head = [0u8; 5];
-    let mut space = [0u8; 131072];
+    let mut space = [0u8; cases::ROOM];
     let body: &mut [u8] = &mut space;
-    let mut left: u32 = 4000000000;
-    while 0 < left {
-        left -= 1;
-        if !run_case(&mut head, body) {
+    for _ in 0..cases::MOST {
+        if !run_case(body) {
             return;
         }
     }

@@ -1,15 +1,13 @@
--- `cases::fill` meets its contract.
+-- `cases::take_body` meets its contract.
 -- Assumes nothing.
-use mathlib.Core.Path.{sym, subst}
 use native.Mathlib.Omega.{arith}
-use lib.Dec.{T}
 use lib.ListN.{length-take}
 use borrow.Author.Needs.{needs}
-use Rattle.cases.proofs.fill.Statement.{statement}
-use Rattle.cases.proofs.fill.Tie as tie
+use Rattle.cases.proofs.take_body.Statement.{statement}
+use Rattle.cases.proofs.take_body.Tie as tie
 
 returns : tie.Need-returns
-returns c = λ e. absurd (subst T (sym e) tt)
+returns c = search needs
 
 slice-relend-prefix-read-full : tie.Need-slice-relend-prefix-read-full
 slice-relend-prefix-read-full c = search needs
@@ -26,8 +24,14 @@ same-length c = search needs
 returns-2 : tie.Need-returns-2
 returns-2 c = search needs
 
-pub fill-spec : {M : Type 1} → statement M
-fill-spec =
+same-length-2 : tie.Need-same-length-2
+same-length-2 c = search needs
+
+returns-3 : tie.Need-returns-3
+returns-3 c = (search needs, simp length-take (omega arith))
+
+pub take-body-spec : {M : Type 1} → statement M
+take-body-spec =
     tie.close
     (tie.spec
     returns
@@ -35,4 +39,6 @@ fill-spec =
     slice-aggregate-read-full
     read-full-requires
     same-length
-    returns-2)
+    returns-2
+    same-length-2
+    returns-3)
