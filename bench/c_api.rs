@@ -49,6 +49,14 @@ pub struct Answer {
     pub value: Content,
 }
 
+/// Where a payload's fault is: its code and offset, or 0 and the payload's length.
+#[repr(C)]
+#[derive(Clone, Copy, Debug, PartialEq, Eq)]
+pub struct WalkAnswer {
+    pub code: u8,
+    pub offset: usize,
+}
+
 /// A writer's answer: code 0 and the frame's byte count, or the refusal's code and 0.
 #[repr(C)]
 #[derive(Clone, Copy, Debug, PartialEq, Eq)]
@@ -68,6 +76,7 @@ pub enum Given<'a> {
 // A slice passes as a pointer and then a length.
 extern "C" {
     fn bogsilver_read(bytes: *const u8, length: usize) -> Answer;
+    fn bogsilver_walk(bytes: *const u8, length: usize, strict: bool) -> WalkAnswer;
     fn bogsilver_write(
         key: u32,
         kind: u32,
@@ -85,6 +94,12 @@ extern "C" {
 pub fn read(bytes: &[u8]) -> Answer {
     // SAFETY: the pointer and the length are those of one slice.
     unsafe { bogsilver_read(bytes.as_ptr(), bytes.len()) }
+}
+
+/// The walk of a payload, in the loose or in the strict profile.
+pub fn walk(payload: &[u8], strict: bool) -> WalkAnswer {
+    // SAFETY: the pointer and the length are those of one slice.
+    unsafe { bogsilver_walk(payload.as_ptr(), payload.len(), strict) }
 }
 
 pub fn write(key: u32, given: Given, tag: u32, out: &mut [u8]) -> WriteAnswer {

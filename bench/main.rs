@@ -13,22 +13,10 @@ mod shapes;
 mod time;
 mod walker;
 
-// The proved walker: a slice passes as a pointer and then a length.
-extern "C" {
-    fn payload_code(bytes: *const u8, length: usize, strict: bool) -> u8;
-    fn payload_offset(bytes: *const u8, length: usize, strict: bool) -> usize;
-}
-
 /// The proved walker's code and offset.
 fn proved(payload: &[u8], strict: bool) -> (u8, usize) {
-    let (bytes, length) = (payload.as_ptr(), payload.len());
-    // SAFETY: the pointer and the length are those of one slice.
-    unsafe {
-        (
-            payload_code(bytes, length, strict),
-            payload_offset(bytes, length, strict),
-        )
-    }
+    let answer = c_api::walk(payload, strict);
+    (answer.code, answer.offset)
 }
 
 fn main() {

@@ -1,14 +1,15 @@
 /*
  * Bogsilver for C: reads and writes frames of Transmission's IPC protocol, version 2.
  *
- * Link with libc_api.a (`rt staticlib c_api`, x86-64 Linux). The functions allocate nothing, keep nothing between calls
- * and end on every input. They are proved to answer as the rules say. The caller sees to this:
+ * Link with libc_api.a (`rt staticlib c_api`, x86-64 Linux). The functions allocate nothing, keep nothing
+ * between calls and end on every input. They are proved to answer as the rules say. The caller sees to this:
  * - bytes and out are never NULL, even where the length is 0, and have the length that is handed in, at most PTRDIFF_MAX;
  * - out does not overlap bytes, and nothing else writes to either during the call.
  */
 #ifndef BOGSILVER_H
 #define BOGSILVER_H
 
+#include <stdbool.h>
 #include <stddef.h>
 #include <stdint.h>
 
@@ -40,6 +41,7 @@ enum {
     BOGSILVER_DEPTH = 7,          /* a 17th level opens */
     BOGSILVER_REPEATED_KEY = 8,   /* a key comes twice in one dictionary */
     BOGSILVER_TRAILING = 9,       /* bytes follow the value */
+    BOGSILVER_UNSORTED_KEY = 11,  /* of a strict walk alone: a key is not above the one before it */
     BOGSILVER_NO_MESSAGE = 20,    /* neither a message nor a dictionary */
     BOGSILVER_NO_HANDSHAKE = 21,  /* a dictionary that is no handshake */
     BOGSILVER_OFF_FORMAT = 22     /* a listed key's value is off its format */
@@ -69,7 +71,10 @@ enum {
 /* Kinds of value for bogsilver_write; any other number is refused by 41. */
 enum { BOGSILVER_GIVEN_NOTHING = 0, BOGSILVER_GIVEN_INTEGER = 1, BOGSILVER_GIVEN_BYTES = 2 };
 
-/* Numbers of the keys, and the format of each one's value. Where it is ignored, an answer names nothing and nothing is handed in. */
+/*
+ * Numbers of the keys, and the format of each one's value. Where it is ignored, an answer names nothing and nothing is
+ * handed in.
+ */
 enum {
     BOGSILVER_UNLISTED = 0,       /* any value, as it is encoded; the key itself is the string at offset 9 of the frame */
     BOGSILVER_AUTOMAP = 1,        /* integer 0 or 1 */
@@ -115,6 +120,12 @@ struct bogsilver_answer {
     struct bogsilver_content value;
 };
 
+/* Where a payload's fault is: its code, 5 to 11, and its offset; or 0 and the payload's length. */
+struct bogsilver_walk_answer {
+    uint8_t code;
+    size_t offset;
+};
+
 /* A writer's answer: code 0 and the frame's byte count, or the refusal's code and 0. */
 struct bogsilver_write_answer {
     uint8_t code;
@@ -128,6 +139,12 @@ struct bogsilver_write_answer {
  * BOGSILVER_HEADER_LENGTH and the header's number of bytes further; after 2 and 3 no next frame can be found.
  */
 struct bogsilver_answer bogsilver_read(const uint8_t *bytes, size_t length);
+
+/*
+ * Walks a payload, of any length and with no header: says where its fault is, if it is not one bencoded value. Strict: the
+ * keys of a dictionary rise, too.
+ */
+struct bogsilver_walk_answer bogsilver_walk(const uint8_t *bytes, size_t length, bool strict);
 
 /*
  * Writes a message at the front of out. The value is by its kind nothing, the integer, or the bytes as the reader would

@@ -1,6 +1,8 @@
-// The reader and the writers for C and Rust, on numbers and byte slices. include/bogsilver.h has the C side.
+// The reader, the writers and the walk of a payload for C and Rust, on numbers and byte slices. include/bogsilver.h has the
+// C side.
 mod greeting;
 mod offered;
 mod read;
+mod walk;
 mod write;
 mod written;
