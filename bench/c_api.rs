@@ -1,4 +1,4 @@
-//! The library's C interface, as include/bogsilver.h has it, behind safe functions.
+//! Bogsilver for Rust: what include/bogsilver.h declares, behind safe functions. Link with libbogsilver.a.
 
 // Each program uses a part of it.
 #![allow(dead_code)]

@@ -1,5 +1,6 @@
 /*
  * Prints what a daemon said: reads a capture of frames, joined end to end, from standard input and writes a line for each.
+ * Linked with libbogsilver.a.
  * Memory is bounded: no frame that the library takes is longer than half the buffer.
  */
 #include <inttypes.h>

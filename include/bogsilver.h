@@ -1,7 +1,7 @@
 /*
  * Bogsilver for C: reads and writes frames of Transmission's IPC protocol, version 2.
  *
- * Link with libc_api.a (`rt staticlib c_api`, x86-64 Linux). The functions allocate nothing, keep nothing
+ * Link with libbogsilver.a, which tools/library.sh builds (x86-64 Linux). The functions allocate nothing, keep nothing
  * between calls and end on every input. They are proved to answer as the rules say. The caller sees to this:
  * - bytes and out are never NULL, even where the length is 0, and have the length that is handed in, at most PTRDIFF_MAX;
  * - out does not overlap bytes, and nothing else writes to either during the call.

@@ -4,11 +4,8 @@
 set -eu
 cd "$(dirname "$0")/.."
 
+library=$(tools/library.sh)
 mkdir -p target/bench
-rt staticlib c_api >target/bench/staticlib.log 2>&1 || {
-    cat target/bench/staticlib.log >&2
-    exit 1
-}
 rustc --edition 2021 -C opt-level=3 -C codegen-units=1 --crate-name bench bench/main.rs \
-    -C link-arg=target/staticlib/libc_api.a -o target/bench/bench
+    -C "link-arg=$library" -o target/bench/bench
 exec target/bench/bench "$@"

@@ -16,16 +16,13 @@ esac
 
 out=target/console
 mkdir -p "$out"
-rt staticlib c_api >"$out/staticlib.log" 2>&1 || {
-    cat "$out/staticlib.log" >&2
-    exit 1
-}
-gcc -std=c99 -pedantic -Wall -Wextra -Werror -O2 -Iinclude examples/console.c target/staticlib/libc_api.a -o "$out/console_c"
+library=$(tools/library.sh)
+gcc -std=c99 -pedantic -Wall -Wextra -Werror -O2 -Iinclude examples/console.c "$library" -o "$out/console_c"
 rustc --edition 2021 -C opt-level=3 -D warnings --crate-name console bench/console.rs \
-    -C link-arg=target/staticlib/libc_api.a -o "$out/console_rust"
+    -C "link-arg=$library" -o "$out/console_rust"
 
 gcc -std=c99 -pedantic -Wall -Wextra -Werror -O2 -fsanitize=address,undefined -Iinclude tools/frame_cases.c \
-    target/staticlib/libc_api.a -o "$out/frame_cases_c"
+    "$library" -o "$out/frame_cases_c"
 
 "$out/frame_cases_c" <crates/frame_cases/stdin >"$out/frame_cases.txt"
 cmp "$out/frame_cases.txt" crates/frame_cases/stdout
