@@ -1,6 +1,6 @@
 //! Compares the proved reader and writers with those in ordinary Rust: the same answers, and the same buffers.
 
-use crate::c_api::{self, Answer, Given, WriteAnswer};
+use crate::bogsilver::{self, Answer, Given, WriteAnswer};
 use crate::frame_reader::{self, KEYS};
 use crate::frame_writer;
 use crate::random::{self, Random};
@@ -79,7 +79,7 @@ fn report(codes: &[usize], answers: &[u64; 256]) {
 }
 
 fn read(frame: &[u8], answers: &mut [u64; 256]) {
-    let (found, wanted): (Answer, Answer) = (c_api::read(frame), frame_reader::read(frame));
+    let (found, wanted): (Answer, Answer) = (bogsilver::read(frame), frame_reader::read(frame));
     assert_eq!(found, wanted, "frame {frame:02x?}");
     answers[usize::from(found.code)] += 1;
 }
@@ -194,7 +194,7 @@ fn write(random: &mut Random, answers: &mut [u64; 256]) {
     };
     let mut out = vec![0xAA; room];
     let mut other = out.clone();
-    let found = c_api::write_numbers(key, kind, integer, &list, tag, &mut out);
+    let found = bogsilver::write_numbers(key, kind, integer, &list, tag, &mut out);
     let wanted = match kind {
         0 => frame_writer::write(key, Given::Nothing, tag, &mut other),
         1 => frame_writer::write(key, Given::Integer(integer), tag, &mut other),
@@ -220,12 +220,12 @@ fn greet(random: &mut Random, answers: &mut [u64; 256]) {
     let [min, max, min2, max2] = [(); 4].map(|()| edge(random) as u32);
     let mut out = vec![0xAA; random.below(60)];
     let mut other = out.clone();
-    let found = c_api::write_handshake(min, max, &mut out);
+    let found = bogsilver::write_handshake(min, max, &mut out);
     let wanted = frame_writer::write_handshake(min, max, &mut other);
     assert_eq!((found, out), (wanted, other), "versions {min} to {max}");
     answers[usize::from(found.code)] += 1;
     assert_eq!(
-        c_api::agreed_version(min, max, min2, max2),
+        bogsilver::agreed_version(min, max, min2, max2),
         frame_writer::agreed_version(min, max, min2, max2),
         "versions {min} to {max}, {min2} to {max2}"
     );

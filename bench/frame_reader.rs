@@ -1,7 +1,7 @@
 //! A frame reader in ordinary Rust, written from the rules over the walker in walker.rs.
 //! It is what the proved reader is compared with, in its answers and in its time.
 
-use crate::c_api::{self, Answer, Content, HEADER_LENGTH};
+use crate::bogsilver::{self, Answer, Content, HEADER_LENGTH};
 use crate::walker;
 
 pub const LARGEST_PAYLOAD: usize = 32768;
@@ -180,10 +180,10 @@ fn handshake(payload: &[u8]) -> Option<Answer> {
         return None;
     }
     Some(Answer {
-        kind: c_api::HANDSHAKE,
+        kind: bogsilver::HANDSHAKE,
         consumed: HEADER_LENGTH + payload.len(),
         value: Content {
-            kind: c_api::VERSIONS,
+            kind: bogsilver::VERSIONS,
             min: min as u32,
             max: max as u32,
             ..Content::default()
@@ -217,13 +217,13 @@ fn message(payload: &[u8]) -> Option<Answer> {
     let value = &value[..value.len() - after.len()];
     Some(match content(KEYS[key].1, value, start) {
         Some(value) => Answer {
-            kind: c_api::MESSAGE,
+            kind: bogsilver::MESSAGE,
             consumed: HEADER_LENGTH + payload.len(),
             value,
             ..named
         },
         None => Answer {
-            code: c_api::OFF_FORMAT,
+            code: bogsilver::OFF_FORMAT,
             ..named
         },
     })
@@ -242,7 +242,7 @@ fn content(format: Format, value: &[u8], start: usize) -> Option<Content> {
         Format::Boolean | Format::Port | Format::Integer => {
             let integer = number_of(value)?;
             integer_fits(format, integer).then_some(Content {
-                kind: c_api::INTEGER,
+                kind: bogsilver::INTEGER,
                 integer,
                 ..Content::default()
             })
@@ -250,18 +250,18 @@ fn content(format: Format, value: &[u8], start: usize) -> Option<Content> {
         Format::Text => {
             let (text, _) = string(value)?;
             let start = start + value.len() - text.len();
-            Some(placed(c_api::TEXT, start, text.len()))
+            Some(placed(bogsilver::TEXT, start, text.len()))
         }
-        Format::Any => Some(placed(c_api::PART, start, value.len())),
+        Format::Any => Some(placed(bogsilver::PART, start, value.len())),
         Format::TextList => list(value, |item| string(item).is_some()).then_some(placed(
-            c_api::PART,
+            bogsilver::PART,
             start,
             value.len(),
         )),
         Format::IdList => list(value, |item| number_of(item).is_some_and(is_number))
-            .then_some(placed(c_api::PART, start, value.len())),
+            .then_some(placed(bogsilver::PART, start, value.len())),
         Format::TorrentList => {
-            list(value, is_torrent).then_some(placed(c_api::PART, start, value.len()))
+            list(value, is_torrent).then_some(placed(bogsilver::PART, start, value.len()))
         }
     }
 }

@@ -2,7 +2,7 @@
 
 use std::hint::black_box;
 
-use crate::c_api::{self, Given, LARGEST_FRAME};
+use crate::bogsilver::{self, Given, LARGEST_FRAME};
 use crate::time::{print_ratio, print_title};
 use crate::{frame_reader, frame_shapes, frame_writer};
 
@@ -38,14 +38,14 @@ pub fn run() {
 }
 
 fn read(name: &str, frame: &[u8]) {
-    let answer = c_api::read(frame);
+    let answer = bogsilver::read(frame);
     assert_eq!((answer.code, answer.consumed), (0, frame.len()), "{name}");
     assert_eq!(answer, frame_reader::read(frame), "{name}");
     print_ratio(
         name,
         frame.len(),
         || {
-            black_box(c_api::read(black_box(frame)));
+            black_box(bogsilver::read(black_box(frame)));
         },
         || {
             black_box(frame_reader::read(black_box(frame)));
@@ -56,7 +56,7 @@ fn read(name: &str, frame: &[u8]) {
 fn write(name: &str, key: u32, value: &[u8]) {
     let (mut out, mut other) = (vec![0; LARGEST_FRAME], vec![0; LARGEST_FRAME]);
     let given = Given::Bytes(value);
-    let answer = c_api::write(key, given, 7, &mut out);
+    let answer = bogsilver::write(key, given, 7, &mut out);
     assert_eq!(answer.code, 0, "{name}");
     assert_eq!(answer, frame_writer::write(key, given, 7, &mut other));
     assert_eq!(out, other, "{name}");
@@ -64,7 +64,12 @@ fn write(name: &str, key: u32, value: &[u8]) {
         name,
         value.len(),
         || {
-            black_box(c_api::write(key, black_box(given), 7, black_box(&mut out)));
+            black_box(bogsilver::write(
+                key,
+                black_box(given),
+                7,
+                black_box(&mut out),
+            ));
         },
         || {
             black_box(frame_writer::write(

@@ -3,7 +3,7 @@
 
 use std::io::{self, Write};
 
-use crate::c_api::{Given, WriteAnswer, HEADER_LENGTH};
+use crate::bogsilver::{Given, WriteAnswer, HEADER_LENGTH};
 use crate::frame_reader::{integer_fits, Format, KEYS, LARGEST_NUMBER, LARGEST_PAYLOAD};
 
 /// Keys that are read only.

@@ -1,7 +1,8 @@
 //! Compares the proved payload walker, frame reader and frame writer with ones in ordinary Rust, in their answers and in
 //! their time.
 
-mod c_api;
+#[path = "../include/bogsilver.rs"]
+mod bogsilver;
 mod compare;
 mod frame_compare;
 mod frame_reader;
@@ -15,7 +16,7 @@ mod walker;
 
 /// The proved walker's code and offset.
 fn proved(payload: &[u8], strict: bool) -> (u8, usize) {
-    let answer = c_api::walk(payload, strict);
+    let answer = bogsilver::walk(payload, strict);
     (answer.code, answer.offset)
 }
 
@@ -35,7 +36,7 @@ fn main() {
                 frame_time::run();
             }
             _ => {
-                eprintln!("usage: bench.sh [compare] [time]");
+                eprintln!("usage: bench/run.sh [compare] [time]");
                 std::process::exit(2);
             }
         }

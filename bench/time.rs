@@ -3,7 +3,7 @@
 use std::hint::black_box;
 use std::time::{Duration, Instant};
 
-use crate::{c_api, proved, shapes, walker};
+use crate::{bogsilver, proved, shapes, walker};
 
 /// A sample is at least so long, by repeating the call, so that the clock's step does not count.
 const SAMPLE: Duration = Duration::from_micros(50);
@@ -46,7 +46,7 @@ fn line(name: &str, payload: &[u8]) {
         "{name} is not accepted"
     );
     let proved = || {
-        black_box(c_api::walk(black_box(payload), black_box(false)));
+        black_box(bogsilver::walk(black_box(payload), black_box(false)));
     };
     let rust = || {
         black_box(walker::walk(black_box(payload), black_box(false)));

@@ -1,6 +1,6 @@
 #!/bin/sh
 # Proves and builds the library for C and Rust: target/staticlib/libbogsilver.a, for x86-64 Linux.
-# C includes include/bogsilver.h, Rust bench/c_api.rs.
+# C includes include/bogsilver.h, Rust include/bogsilver.rs.
 set -eu
 cd "$(dirname "$0")/.."
 

@@ -1,5 +1,5 @@
 // The reader, the writers and the walk of a payload for C and Rust, on numbers and byte slices. include/bogsilver.h has the
-// C side.
+// C side, include/bogsilver.rs the Rust side.
 mod greeting;
 mod offered;
 mod read;

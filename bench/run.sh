@@ -1,6 +1,6 @@
 #!/bin/sh
-# Compares and times the proved payload walker, frame reader and frame writer against those in ordinary Rust in bench/.
-# Usage: tools/bench.sh [compare] [time]; with no argument both.
+# Compares and times the proved payload walker, frame reader and frame writer against those in ordinary Rust beside it.
+# Usage: bench/run.sh [compare] [time]; with no argument both.
 set -eu
 cd "$(dirname "$0")/.."
 

@@ -1,9 +1,9 @@
 """What the program override-desk prints for a strip.
 
 An independent model, written from document 01 alone: it shares nothing with
-the library. `run` takes any bytes. From a shell:
+the library. `run` takes any bytes. From a shell, in tools/:
 
-  python3 tools/strip_oracle.py < strip
+  python3 -B -m oracle.strip < strip
 """
 
 import struct

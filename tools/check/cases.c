@@ -1,12 +1,14 @@
 /*
- * Answers the stream of cases of frame_cases through include/bogsilver.h: `r` read, `w` write, `s` handshake, `a` agreed
- * version, a line each. Before each write the buffer is filled with a pattern, and a byte that should have stayed and did
- * not is said in the line.
+ * Answers a stream of stored cases through include/bogsilver.h, a line each: `cases frame` those of frame_cases (`r` read,
+ * `w` write, `s` handshake, `a` agreed version), `cases payload` those of payload_cases (`l` and `s`, a walk in the loose and
+ * in the strict profile). Before each write the buffer is filled with a pattern, and a byte that should have stayed and did not
+ * is said in the line.
  */
 #include "bogsilver.h"
 
 #include <inttypes.h>
 #include <stdio.h>
+#include <string.h>
 
 #define LARGEST_BODY 131072
 #define FILL 0xA5
@@ -85,7 +87,16 @@ static int print_handshake(size_t length)
     return 1;
 }
 
-static int answer(int operation, size_t length)
+static int answer_payload(int operation, size_t length)
+{
+    if (operation != 'l' && operation != 's')
+        return 0;
+    struct bogsilver_walk_answer w = bogsilver_walk(body, length, operation == 's');
+    printf("%u %zu\n", w.code, w.offset);
+    return 1;
+}
+
+static int answer_frame(int operation, size_t length)
 {
     switch (operation) {
     case 'r': print_reading(length); return 1;
@@ -100,8 +111,13 @@ static int answer(int operation, size_t length)
     }
 }
 
-int main(void)
+int main(int count, char **words)
 {
+    if (count != 2 || (strcmp(words[1], "frame") != 0 && strcmp(words[1], "payload") != 0)) {
+        fputs("usage: cases frame|payload\n", stderr);
+        return 2;
+    }
+    int (*answer)(int, size_t) = words[1][0] == 'f' ? answer_frame : answer_payload;
     for (;;) {
         uint8_t head[5];
         size_t got = fread(head, 1, sizeof head, stdin);

@@ -10,7 +10,8 @@ code of the first fault and its offset from the payload's start:
   9   bytes follow the value
   11  strict profile only: a key is not above the one before it
 
-Run with --self-test to check the examples of the rules.
+In tools/, python3 -B -m oracle.payload --self-test checks the examples of the
+rules.
 """
 
 import sys
@@ -259,5 +260,5 @@ def self_test():
 
 if __name__ == "__main__":
     if sys.argv[1:] != ["--self-test"]:
-        sys.exit("usage: payload_oracle.py --self-test")
+        sys.exit("usage: python3 -B -m oracle.payload --self-test")
     self_test()

@@ -1,5 +1,5 @@
 #!/bin/sh
-# Compares payload acceptance of tools/payload_oracle.py with two bencode
+# Compares payload acceptance of tools/oracle/payload.py with two bencode
 # packages of Debian: libbencode-perl and python3-fastbencode. Installs them
 # if they are missing, which needs the right to install packages.
 set -eu
@@ -11,4 +11,4 @@ for package in libbencode-perl python3-fastbencode; do
     fi
 done
 # Debian's own Python: the package is installed for that one.
-exec /usr/bin/python3 tools/compare_bencode.py
+exec /usr/bin/python3 -B -m check.bencode

@@ -9,15 +9,15 @@ first byte, those of faults 5 to 9 from the payload's.
 write and write_handshake give code, count and frame; agreed gives a version.
 line(operation, body) is the line that the conformance program prints.
 
-Run with --self-test to check the examples of the rules.
+In tools/, python3 -B -m oracle.frame --self-test checks the examples of the
+rules.
 """
 
 import collections
 import struct
 import sys
 
-sys.dont_write_bytecode = True
-from payload_oracle import walk  # noqa: E402
+from oracle.payload import walk
 
 MAX_FRAME_LENGTH = 2147483640
 MAX_PAYLOAD = 32768
@@ -394,5 +394,5 @@ def self_test():
 
 if __name__ == "__main__":
     if sys.argv[1:] != ["--self-test"]:
-        sys.exit("usage: frame_oracle.py --self-test")
+        sys.exit("usage: python3 -B -m oracle.frame --self-test")
     self_test()

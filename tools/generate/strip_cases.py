@@ -1,12 +1,11 @@
-#!/usr/bin/env python3
-"""Makes the stored cases of the program override-desk.
+"""Makes the stored cases of strip_cases, and their lines. In tools/:
 
-  tools/strip_cases.py STDIN STDOUT    writes both files
-  tools/strip_cases.py --check         checks the cases, writes nothing
+  python3 -B -m generate.strip_cases FOLDER     writes stdin and stdout
+  python3 -B -m generate.strip_cases --check    checks the cases
 
-STDIN is a sequence of cases: one byte of operation `s`, a length in 4 bytes,
-little-endian, and so many bytes of strip. STDOUT has for each case what
-override-desk prints for that strip, by strip_oracle.run, and then one line
+stdin is a sequence of cases: one byte of operation `s`, a length in 4 bytes,
+little-endian, and so many bytes of strip. stdout has for each case what
+override-desk prints for that strip, by oracle.strip.run, and then one line
 with a single full stop. The files are the same on every run: all choices
 come from a fixed seed.
 """
@@ -19,9 +18,8 @@ import re
 import struct
 import sys
 
-sys.dont_write_bytecode = True
-import strip_oracle  # noqa: E402
-from chance import Chance  # noqa: E402
+from generate.chance import Chance
+from oracle import strip as strip_oracle
 
 SIZE_LIMIT = 700000
 LEAST_CASES = 600
@@ -507,13 +505,13 @@ def case(strip):
     return b"s" + struct.pack("<I", len(strip)) + strip
 
 
-def write_files(stdin, stdout):
+def write_files(folder):
     strips = list(itertools.chain(*groups().values()))
     cases = b"".join(map(case, strips))
     printed = b"".join(strip_oracle.run(s) + b".\n" for s in strips)
     assert len(strips) >= LEAST_CASES and len(cases) < SIZE_LIMIT
-    pathlib.Path(stdin).write_bytes(cases)
-    pathlib.Path(stdout).write_bytes(printed)
+    (folder / "stdin").write_bytes(cases)
+    (folder / "stdout").write_bytes(printed)
     print(len(strips), "cases; bytes:", len(cases), len(printed))
 
 
@@ -527,7 +525,7 @@ FRAME = re.compile(r"([0-9A-F]{8})(l\d+:(downlimit|uplimit|start|stop)"
 
 def strip_tool():
     """The program tools/strip as a module."""
-    path = pathlib.Path(__file__).resolve().parent / "strip"
+    path = pathlib.Path(__file__).resolve().parents[1] / "strip"
     loader = importlib.machinery.SourceFileLoader("strip_tool", str(path))
     spec = importlib.util.spec_from_loader("strip_tool", loader)
     module = importlib.util.module_from_spec(spec)
@@ -652,8 +650,8 @@ def check():
 def main():
     if sys.argv[1:] == ["--check"]:
         check()
-    elif len(sys.argv) == 3:
-        write_files(*sys.argv[1:])
+    elif len(sys.argv) == 2:
+        write_files(pathlib.Path(sys.argv[1]))
     else:
         sys.exit(__doc__.strip())
 

@@ -1,12 +1,12 @@
-"""Writes crates/frame_cases/stdin and stdout: cases and expected lines.
+"""Makes the stored cases of frame_cases, and their lines.
 
 A case is one byte of operation, a length in 4 bytes, little-endian, and so
-many bytes of body; its line is what frame_oracle.line gives. The last case
+many bytes of body; its line is what oracle.frame.line gives. The last case
 is cut short. Operations: r read, w write, s write a handshake, a agreed
 version.
 
-Run from the repository's top: python3 tools/frame_cases.py
-The files are the same on every run: all choices come from a fixed seed.
+In tools/, python3 -B -m generate.frame_cases FOLDER writes FOLDER/stdin and
+FOLDER/stdout: the same on every run, since all choices come from a fixed seed.
 """
 
 import itertools
@@ -14,16 +14,13 @@ import pathlib
 import struct
 import sys
 
-sys.dont_write_bytecode = True
-from chance import Chance  # noqa: E402
-from frame_oracle import (  # noqa: E402
-    FAULT, MAX_PAYLOAD, TABLE, line, read, write)
-from payload_cases import (  # noqa: E402
+from generate.chance import Chance
+from generate.payload_cases import (
     BETWEEN, EXAMPLES, FAULTY, FRAMES, REPLACEMENTS, SCOPE, SOUND,
     dictionary, integer, listing, mutated, nested, random_text, random_value,
     string)
+from oracle.frame import FAULT, MAX_PAYLOAD, TABLE, line, read, write
 
-FOLDER = pathlib.Path(__file__).resolve().parent.parent / "crates/frame_cases"
 MAX_BODY = 131072
 SIZE_LIMIT = 3000000
 KEYS = [key for key, _ in TABLE]
@@ -613,7 +610,7 @@ def write_cases():
         agreements(chance))
 
 
-def main():
+def main(folder):
     made = itertools.chain(read_cases(), write_cases())
     cases, lines, counts = bytearray(), bytearray(), {}
     for operation, body in dict.fromkeys(made):
@@ -628,13 +625,14 @@ def main():
     cases += b"r" + struct.pack("<I", 18) + b"0000000Al4:noop0:"
     lines += FAULT.encode() + b"\n"
     assert len(cases) <= SIZE_LIMIT
-    FOLDER.mkdir(parents=True, exist_ok=True)
-    (FOLDER / "stdin").write_bytes(cases)
-    (FOLDER / "stdout").write_bytes(lines)
+    (folder / "stdin").write_bytes(cases)
+    (folder / "stdout").write_bytes(lines)
     for operation, row in counts.items():
         print(operation, sum(row.values()), "cases; by code:", row)
     print("and a cut case; bytes:", len(cases), len(lines))
 
 
 if __name__ == "__main__":
-    main()
+    if len(sys.argv) != 2:
+        sys.exit("usage: python3 -B -m generate.frame_cases FOLDER")
+    main(pathlib.Path(sys.argv[1]))

@@ -1,11 +1,12 @@
 //! Prints what a daemon said: reads a capture of frames, joined end to end, from standard input and writes a line for
-//! each. The same as examples/console.c, from Rust.
+//! each. The same as console.c, from Rust; linked with libbogsilver.a.
 
-mod c_api;
+#[path = "../include/bogsilver.rs"]
+mod bogsilver;
 
 use std::io::{self, BufWriter, Read, Write};
 
-use c_api::{Answer, HEADER_LENGTH, LARGEST_FRAME};
+use bogsilver::{Answer, HEADER_LENGTH, LARGEST_FRAME};
 
 /// Indexed by number; the name of an unlisted key stands in its frame.
 const KEYS: [&str; 21] = [
@@ -142,9 +143,9 @@ fn message(frame: &[u8], answer: &Answer) -> String {
     let content = &answer.value;
     let part = &frame[content.start..content.start + content.length];
     let said = match content.kind {
-        c_api::INTEGER => format!(" {}", content.integer),
-        c_api::TEXT => format!(" {}", text(part)),
-        c_api::PART => format!(" {}", value(part).0),
+        bogsilver::INTEGER => format!(" {}", content.integer),
+        bogsilver::TEXT => format!(" {}", text(part)),
+        bogsilver::PART => format!(" {}", value(part).0),
         _ => String::new(),
     };
     key + &said + &tag(answer)
@@ -152,11 +153,11 @@ fn message(frame: &[u8], answer: &Answer) -> String {
 
 fn line(frame: &[u8], answer: &Answer) -> String {
     match (answer.kind, answer.code) {
-        (c_api::HANDSHAKE, _) => {
+        (bogsilver::HANDSHAKE, _) => {
             format!("handshake {} to {}", answer.value.min, answer.value.max)
         }
-        (c_api::MESSAGE, _) => message(frame, answer),
-        (_, c_api::OFF_FORMAT) => {
+        (bogsilver::MESSAGE, _) => message(frame, answer),
+        (_, bogsilver::OFF_FORMAT) => {
             let key = KEYS[usize::from(answer.key)];
             format!("refused 22 at {}, {key}{}", answer.offset, tag(answer))
         }
@@ -166,7 +167,7 @@ fn line(frame: &[u8], answer: &Answer) -> String {
 
 /// The length of a frame: of an accepted one as it was read, else as its sound header says.
 fn frame_length(frame: &[u8], answer: &Answer) -> u64 {
-    if answer.code == c_api::ACCEPTED {
+    if answer.code == bogsilver::ACCEPTED {
         return answer.consumed as u64;
     }
     let digits = String::from_utf8_lossy(&frame[..HEADER_LENGTH]);
@@ -176,13 +177,13 @@ fn frame_length(frame: &[u8], answer: &Answer) -> u64 {
 /// Writes a line for the next frame: false where no further one can be read.
 fn next(input: &mut Input<impl Read>, out: &mut impl Write) -> io::Result<bool> {
     let (offset, frame) = (input.offset, input.rest());
-    let answer = c_api::read(frame);
-    if answer.code == c_api::INCOMPLETE {
+    let answer = bogsilver::read(frame);
+    if answer.code == bogsilver::INCOMPLETE {
         writeln!(out, "{offset}: cut after {} bytes", frame.len())?;
         return Ok(false);
     }
     writeln!(out, "{offset}: {}", line(frame, &answer))?;
-    if answer.code == c_api::NO_DIGIT || answer.code == c_api::OVER_PROTOCOL {
+    if answer.code == bogsilver::NO_DIGIT || answer.code == bogsilver::OVER_PROTOCOL {
         writeln!(out, "{offset}: stopped, no next frame is known")?;
         return Ok(false);
     }

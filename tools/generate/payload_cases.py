@@ -1,11 +1,11 @@
-"""Writes crates/payload_cases/stdin and stdout: cases and expected lines.
+"""Makes the stored cases of payload_cases, and their lines.
 
 A case is one byte of operation (l loose, s strict profile), a length in 4
 bytes, little-endian, and so many bytes of payload. Its line is the code and
-the offset that payload_oracle.walk gives. The last case is cut short.
+the offset that oracle.payload.walk gives. The last case is cut short.
 
-Run from the repository's top: python3 tools/payload_cases.py
-The files are the same on every run: all choices come from a fixed seed.
+In tools/, python3 -B -m generate.payload_cases FOLDER writes FOLDER/stdin and
+FOLDER/stdout: the same on every run, since all choices come from a fixed seed.
 """
 
 import itertools
@@ -13,11 +13,9 @@ import pathlib
 import struct
 import sys
 
-sys.dont_write_bytecode = True
-from chance import Chance  # noqa: E402
-from payload_oracle import walk  # noqa: E402
+from generate.chance import Chance
+from oracle.payload import walk
 
-FOLDER = pathlib.Path(__file__).resolve().parent.parent / "crates/payload_cases"
 MAX_BODY = 131072
 SIZE_LIMIT = 1500000
 
@@ -492,7 +490,7 @@ def all_cases():
     return dict.fromkeys(profiles(itertools.chain(*groups)))
 
 
-def main():
+def main(folder):
     cases, lines, counts = bytearray(), bytearray(), {}
     for profile, payload in all_cases():
         assert len(payload) <= MAX_BODY
@@ -504,9 +502,8 @@ def main():
     cases += b"l" + struct.pack("<I", 5) + b"i1"
     lines += b"case fault\n"
     assert len(cases) <= SIZE_LIMIT
-    FOLDER.mkdir(parents=True, exist_ok=True)
-    (FOLDER / "stdin").write_bytes(cases)
-    (FOLDER / "stdout").write_bytes(lines)
+    (folder / "stdin").write_bytes(cases)
+    (folder / "stdout").write_bytes(lines)
     total = sum(n for row in counts.values() for n in row.values())
     print(total, "cases and a cut one; bytes:", len(cases), len(lines))
     for code, row in sorted(counts.items()):
@@ -514,4 +511,6 @@ def main():
 
 
 if __name__ == "__main__":
-    main()
+    if len(sys.argv) != 2:
+        sys.exit("usage: python3 -B -m generate.payload_cases FOLDER")
+    main(pathlib.Path(sys.argv[1]))

@@ -1,4 +1,4 @@
-//! Bogsilver for Rust: what include/bogsilver.h declares, behind safe functions. Link with libbogsilver.a.
+//! Bogsilver for Rust: what bogsilver.h declares, behind safe functions. Link with libbogsilver.a.
 
 // Each program uses a part of it.
 #![allow(dead_code)]

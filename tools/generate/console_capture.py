@@ -1,19 +1,20 @@
-"""Captures for the consoles, and the lines that they must print.
+"""Captures for the consoles, and the lines that they must print. In tools/:
 
-    console_capture.py write DIRECTORY     the stored capture: capture.bin and capture.txt
-    console_capture.py random SEED         a random capture to standard output
-    console_capture.py print               the lines for a capture from standard input
+  python3 -B -m generate.console_capture FOLDER
+      writes the stored capture, capture.bin and capture.txt
+  python3 -B -m generate.console_capture --random SEED
+      writes a random capture to standard output
+  python3 -B -m generate.console_capture --lines
+      writes the lines for a capture from standard input
 
-The lines come from frame_oracle.py, which shares no code with the library.
+The lines come from oracle.frame, which shares no code with the library.
 """
 
 import pathlib
 import random
 import sys
 
-sys.dont_write_bytecode = True
-import frame_oracle  # noqa: E402
-from frame_oracle import TABLE, decode, read  # noqa: E402
+from oracle.frame import MAX_PAYLOAD, TABLE, decode, read
 
 
 # The lines of a capture.
@@ -53,7 +54,7 @@ def lines(capture):
     """What a console prints for a capture."""
     at, out = 0, []
     while at < len(capture):
-        frame = capture[at:at + 8 + frame_oracle.MAX_PAYLOAD]
+        frame = capture[at:at + 8 + MAX_PAYLOAD]
         answer = read(frame)
         if answer.code == 1:
             return out + ["%d: cut after %d bytes" % (at, len(frame))]
@@ -184,18 +185,18 @@ def random_capture(seed):
 
 
 def main(arguments):
-    if len(arguments) == 2 and arguments[0] == "write":
-        directory = pathlib.Path(arguments[1])
-        (directory / "capture.bin").write_bytes(stored())
-        (directory / "capture.txt").write_text(
-            "".join(line + "\n" for line in lines(stored())))
-    elif len(arguments) == 2 and arguments[0] == "random":
+    if len(arguments) == 2 and arguments[0] == "--random":
         sys.stdout.buffer.write(random_capture(int(arguments[1])))
-    elif arguments == ["print"]:
+    elif arguments == ["--lines"]:
         for line in lines(sys.stdin.buffer.read()):
             print(line)
+    elif len(arguments) == 1:
+        folder = pathlib.Path(arguments[0])
+        (folder / "capture.bin").write_bytes(stored())
+        (folder / "capture.txt").write_text(
+            "".join(line + "\n" for line in lines(stored())))
     else:
-        sys.exit(__doc__)
+        sys.exit(__doc__.strip())
 
 
 if __name__ == "__main__":

@@ -1,8 +1,9 @@
 #!/bin/sh
-# Checks tools/strip, tools/strip_oracle.py and tools/strip_cases.py: document
+# Checks tools/strip, oracle/strip.py and generate/strip_cases.py: document
 # 01's sample, the examples, faults told by line and byte, and all cases.
 set -eu
 cd "$(dirname "$0")/.."
+examples=../examples
 folder=$(mktemp -d)
 trap 'rm -rf "$folder"' EXIT
 
@@ -14,7 +15,7 @@ same() {
 # fault ACTION INPUT MESSAGE: the input is refused with just this message.
 fault() {
     status=0
-    printf "$2" | tools/strip "$1" >"$folder/out" 2>"$folder/err" || status=$?
+    printf "$2" | ./strip "$1" >"$folder/out" 2>"$folder/err" || status=$?
     printf '%s\n' "$3" >"$folder/want"
     same "message for $2" "$folder/err" "$folder/want"
     test "$status" = 1 && test ! -s "$folder/out"
@@ -33,19 +34,19 @@ open 0
 6 0 92
 00000012l9:downlimiti200ee0000000Fl7:uplimiti50ee0000000Dl4:stopli8eee0000000El5:startli3eee
 LISTING
-same "the sample's bytes" examples/sample.strip "$folder/sample"
-python3 -B tools/strip_oracle.py <examples/sample.strip >"$folder/out"
+same "the sample's bytes" "$examples/sample.strip" "$folder/sample"
+python3 -B -m oracle.strip <"$examples/sample.strip" >"$folder/out"
 same "the sample's listing" "$folder/out" "$folder/listing"
 
 # The examples, by file and by standard input.
 for name in sample bad-day; do
-    tools/strip encode "examples/$name.txt" >"$folder/out"
-    same "$name encoded" "$folder/out" "examples/$name.strip"
-    tools/strip decode <"examples/$name.strip" >"$folder/text"
-    grep -v -e '^#' -e '^$' "examples/$name.txt" >"$folder/plain"
+    ./strip encode "$examples/$name.txt" >"$folder/out"
+    same "$name encoded" "$folder/out" "$examples/$name.strip"
+    ./strip decode <"$examples/$name.strip" >"$folder/text"
+    grep -v -e '^#' -e '^$' "$examples/$name.txt" >"$folder/plain"
     same "$name decoded" "$folder/text" "$folder/plain"
-    tools/strip encode <"$folder/text" >"$folder/out"
-    same "$name again" "$folder/out" "examples/$name.strip"
+    ./strip encode <"$folder/text" >"$folder/out"
+    same "$name again" "$folder/out" "$examples/$name.strip"
 done
 
 # Faults of texts.
@@ -84,25 +85,22 @@ fault decode "$head$head" 'byte 9: limits stand at the beginning only'
 
 # Faults of length, and --loose.
 { echo limits 1 2; yes clear | head -n 16375; } >"$folder/text"
-tools/strip encode "$folder/text" >"$folder/out"
+./strip encode "$folder/text" >"$folder/out"
 test "$(wc -c <"$folder/out")" -eq 16384
 echo clear >>"$folder/text"
-tools/strip encode "$folder/text" >"$folder/out" 2>"$folder/err" && exit 1
+./strip encode "$folder/text" >"$folder/out" 2>"$folder/err" && exit 1
 echo 'line 16377: the strip grows over 16384 bytes' >"$folder/want"
 same "a long text" "$folder/err" "$folder/want"
-tools/strip encode --loose "$folder/text" >"$folder/long"
+./strip encode --loose "$folder/text" >"$folder/long"
 test "$(wc -c <"$folder/long")" -eq 16385
-tools/strip decode "$folder/long" >"$folder/out" 2>"$folder/err" && exit 1
+./strip decode "$folder/long" >"$folder/out" 2>"$folder/err" && exit 1
 echo 'byte 16384: a strip ends here at the latest' >"$folder/want"
 same "a long strip" "$folder/err" "$folder/want"
-printf 'clear\nlimits 1 2\n' | tools/strip encode --loose >"$folder/out"
+printf 'clear\nlimits 1 2\n' | ./strip encode --loose >"$folder/out"
 test "$(wc -c <"$folder/out")" -eq 10
 
-# All cases, made again: they are the stored ones.
-tools/strip_cases.py --check
-tools/strip_cases.py "$folder/stdin" "$folder/stdout"
-same "the stored cases" "$folder/stdin" crates/strip_cases/stdin
-same "the stored lines" "$folder/stdout" crates/strip_cases/stdout
-same "the program's strip" examples/sample.strip crates/override_desk/stdin
-same "the program's lines" "$folder/listing" crates/override_desk/stdout
+# All cases.
+python3 -B -m generate.strip_cases --check
+same "the program's strip" "$examples/sample.strip" ../crates/override_desk/stdin
+same "the program's lines" "$folder/listing" ../crates/override_desk/stdout
 echo "strip check: all well"

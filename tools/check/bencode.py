@@ -1,6 +1,6 @@
-"""Compares payload acceptance of payload_oracle.py with two Debian packages.
+"""Compares payload acceptance of oracle.payload with two Debian packages.
 
-Run by compare_bencode.sh. Takes the payloads of payload_cases.py, prints a
+Run by bencode.sh. Takes the payloads of generate.payload_cases, prints a
 count for each kind of difference, and fails if one has no known reason.
 The reasons are in docs/BENCODE-COMPARISON.md.
 """
@@ -14,11 +14,10 @@ import sys
 
 import fastbencode
 
-sys.dont_write_bytecode = True
-from payload_cases import all_cases  # noqa: E402
-from payload_oracle import walk  # noqa: E402
+from generate.payload_cases import all_cases
+from oracle.payload import walk
 
-HELPER = pathlib.Path(__file__).resolve().parent / "compare_bencode.pl"
+HELPER = pathlib.Path(__file__).with_name("bencode.pl")
 MODES = ("Bencode lenient", "Bencode normal", "fastbencode")
 
 # Reasons for a payload that only the package accepts, by the oracle's code.

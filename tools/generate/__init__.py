@@ -1,0 +1,1 @@
+"""Generators of the stored cases; ../remake.sh runs them all."""
