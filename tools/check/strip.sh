@@ -38,7 +38,7 @@ same "the sample's bytes" "$examples/sample.strip" "$folder/sample"
 python3 -B -m oracle.strip <"$examples/sample.strip" >"$folder/out"
 same "the sample's listing" "$folder/out" "$folder/listing"
 
-# The examples, by file and by standard input.
+# The examples, by file, by standard input and by -, which is standard input.
 for name in sample bad-day; do
     ./strip encode "$examples/$name.txt" >"$folder/out"
     same "$name encoded" "$folder/out" "$examples/$name.strip"
@@ -47,6 +47,12 @@ for name in sample bad-day; do
     same "$name decoded" "$folder/text" "$folder/plain"
     ./strip encode <"$folder/text" >"$folder/out"
     same "$name again" "$folder/out" "$examples/$name.strip"
+    ./strip decode - <"$examples/$name.strip" >"$folder/text"
+    same "$name decoded from -" "$folder/text" "$folder/plain"
+    for options in - '- --loose' '--loose -'; do
+        ./strip encode $options <"$folder/text" >"$folder/out"
+        same "$name encoded from $options" "$folder/out" "$examples/$name.strip"
+    done
 done
 
 # Faults of texts.
