@@ -1,14 +1,9 @@
 // The writer of handshakes, and the version that two ranges agree on.
 ghost use mathlib.Core.Path.{_≡_};
 ghost use lib.ListN.{length};
-<<<<<<< HEAD
 ghost use Rattle.ipc.specs.Greeting.{handshakePayload, handshakeWritten};
 ghost use Rattle.ipc.specs.Versions.{agreedVersion};
-ghost use Rattle.c_api.specs.Numbers.{Answered};
-=======
-ghost use Rattle.ipc.specs.Greeting.{handshakePayload, handshakeWritten, agreedVersion};
 ghost use Rattle.c_api.specs.Written.{Answered};
->>>>>>> 82f4cfa (ipc: an answer's numbers stand once, for c_api and frame_cases; a refusal is of no kind)
 use super::written::WriteAnswer;
 use super::written::write_answer_of;
 

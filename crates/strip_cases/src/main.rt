@@ -1,29 +1,28 @@
 // Runs a stream of strips: for each case of operation `s` what override-desk prints for its body, and a line with a point.
-use cases::Case;
 
-fn run_case(head: &mut [u8; 5], body: &mut [u8]) -> bool {
-    match cases::next_case(head, body) {
-        Case::Body { operation, length } => {
-            if operation != b's' {
-                return cases::answered(false);
-            }
-            let printed = strip_run::run_strip(&body[..length]);
-            cases::print(b".\n");
-            printed
-        }
-        Case::End => false,
+// Runs a strip, or says that the operation is none or that not all was printed.
+fn answer_case(operation: u8, strip: &[u8]) -> bool {
+    if operation != b's' {
+        return false;
     }
+    let printed = strip_run::run_strip(strip);
+    cases::print(b".\n");
+    printed
 }
 
-// The number of cases is bounded so that the program is seen to end; no stream has so many.
+// Takes and answers a case, and says whether to go on.
+fn run_case(body: &mut [u8]) -> bool {
+    let taken = cases::take_case(body);
+    let length = taken.length;
+    let answered = answer_case(taken.operation, &body[..length]);
+    cases::go_on(taken, answered)
+}
+
 fn main() {
-    let mut head = [0u8; 5];
-    let mut space = [0u8; 131072];
+    let mut space = [0u8; cases::ROOM];
     let body: &mut [u8] = &mut space;
-    let mut left: u32 = 4000000000;
-    while 0 < left {
-        left -= 1;
-        if !run_case(&mut head, body) {
+    for _ in 0..cases::MOST {
+        if !run_case(body) {
             return;
         }
     }
