@@ -28,7 +28,7 @@ pub record Accepted (watch : List Watch) (down up : ℤ) : Type 0 where
   pub desk : opening (length watch) watch down up .desk ≡ openedWith (length watch) watch down up
 
 -- an opening answers the code of its tests
-opening-code : (n : ℕ) (watch : List Watch) (down up : ℤ) → opening n watch down up .code ≡ openCode n watch down up
+pub opening-code : (n : ℕ) (watch : List Watch) (down up : ℤ) → opening n watch down up .code ≡ openCode n watch down up
 unfolding opening refusedOpening
 opening-code n watch down up =
     by-cases

@@ -4,9 +4,9 @@
 use Prim.Native.Nat.{ℕ, _≤_}
 use native.Mathlib.Omega.{arith}
 use mathlib.Core.Path.{_≡_, refl, sym, ap, ap₂, subst, _∙_}
-use mathlib.Core.Bool.{Bool, true, false, cond, not, or-false, false≢true}
+use mathlib.Core.Bool.{Bool, true, false, cond, not, _||_, or-true, or-false, false≢true}
 use mathlib.Core.List.{List, [], _∷_, _++_, nil≢cons}
-use mathlib.Core.Option.{some}
+use mathlib.Core.Option.{some, none}
 use lib.Dec.{eqb}
 use lib.IntN.{ℤ}
 use lib.ListN.{length, take, drop}
@@ -69,6 +69,16 @@ outcome-follows c room d =
     ∙ k .holds
     ∙ ap (λ (o : Outcome (List ℕ)). standingAfter c (o .code) (standing d)) (sym (k .is))
 
+-- ---- a refused or held call gives the daemon nothing
+abbrev Gives : Outcome (List Command) → Type 0
+Gives o = (eqb (o .code) 0 || eqb (length (framesOf (o .sent))) 0) ≡ true
+
+outcome-gives : (c : Call) (room : ℕ) (d : Desk) → (eqb (outcome c room d .code) 0 || eqb (length (outcome c room d .sent)) 0) ≡ true
+unfolding framed plan framesOf
+outcome-gives c room d =
+    let k = outcome-cases Gives c room d (λ n r. or-true (eqb n 0)) (λ ok. cond-cases Gives (deferred c d) (λ _. refl) (λ _. refl)) in
+    ap (λ (o : Outcome (List ℕ)). eqb (o .code) 0 || eqb (length (o .sent)) 0) (k .is) ∙ k .holds
+
 module _ (watch : List Watch) (others : ℕ → Bool) where
   -- the invariant
   record Invariant (w : World Desk) : Type 0 where
@@ -90,7 +100,8 @@ module _ (watch : List Watch) (others : ℕ → Bool) where
       record {
         wanted = subst (λ (x : Desk). Desired watch others x (aloneAfter c (o .code) (w .alone))) (sym desk-is) (subst (Desired watch others (step .by .desk)) (sym alone) (step .holds .desired));
         right =
-            ap (λ (l : List ℕ). handed (take (length l) (l ++ drop (length l) (t .buffer))) (w .daemon)) sent
+            ap (λ b. cond b (handed (take (length (o .sent)) (o .sent ++ drop (length (o .sent)) (t .buffer))) (w .daemon)) none) (outcome-gives c (length (t .buffer)) d)
+            ∙ ap (λ (l : List ℕ). handed (take (length l) (l ++ drop (length l) (t .buffer))) (w .daemon)) sent
             ∙ frames-handed (step .by .sent) (drop (length (framesOf (step .by .sent))) (t .buffer)) (w .daemon) (due watch others (w .alone) d) (step .holds .sendable) (i .right)
             ∙ ap some (step .holds .obeyed ∙ ap₂ (due watch others) (sym alone) (sym desk-is));
         follows = ap (standingAfter c (o .code)) (i .follows) ∙ sym (outcome-follows c (length (t .buffer)) d);

@@ -6,7 +6,7 @@ use mathlib.Core.Path.{_≡_, refl, sym, ap, _∙_}
 use mathlib.Core.Bool.{Bool, true, false, cond}
 use mathlib.Core.List.{List, [], _∷_, _++_}
 use lib.Dec.{eqb, leb}
-use borrow.Author.Tests.{ne-eqb, eq-eqb, eqb-true, eqb-false, le-leb, lt-leb, leb-true, leb-false}
+use borrow.Author.Tests.{ne-eqb, eq-eqb, le-leb, lt-leb}
 use lib.IntN.{ℤ}
 use lib.ListN.{length, drop}
 use Rattle.desk.specs.declared.record.Desk.{Desk}
@@ -15,11 +15,11 @@ use Rattle.desk.specs.Opening.{openCode, refusedOpening, opening}
 use Rattle.desk.specs.Command.{Command, framesOf}
 use Rattle.desk.specs.Refusal.{stands, callFault}
 use Rattle.desk.specs.declared.calls.Call.{Call}
-use Rattle.desk.specs.Plan.{Outcome, deferred, deskAfter, plan}
+use Rattle.desk.specs.Plan.{Outcome, deskAfter, plan}
 use Rattle.desk.specs.Calls.{refused, decided, framed, delivered, outcome, returned, bufferAfter}
-use Rattle.desk.specs.Demands.{overrideAfter, NumbersGiven, RefusalKeeps, RefusalCloses, OverrideMoves}
+use Rattle.desk.specs.Demands.{overrideAfter, NumbersGiven, OpeningGiven, RefusalKeeps, RefusalCloses, OverrideMoves}
 use Rattle.desk.proofs.Cases.{by-cases, cond-cases}
-use Rattle.desk.proofs.RefusalLaws.{fault-code}
+use Rattle.desk.proofs.AcceptedOpening.{opening-code}
 use Rattle.desk.proofs.CallLaws.{Comes, outcome-refused, outcome-cases}
 
 -- an outcome that keeps the record where it refuses, and moves the override where it is accepted
@@ -96,29 +96,14 @@ module _ (c : Call) (room : ℕ) (d : Desk) where
     code-short : room < bytes → outcome c room d .code ≡ 34
     code-short h = code-planned ∙ ap (λ b. cond b (plan c d .code) 34) (lt-leb bytes room h)
 
-    code-accepted : bytes ≤ room → outcome c room d .code ≤ 1
-    unfolding plan
-    code-accepted h =
-        let same : outcome c room d .code ≡ plan c d .code = code-planned ∙ ap (λ b. cond b (plan c d .code) 34) (le-leb bytes room h) in
-        let small : plan c d .code ≤ 1 = cond-cases (λ (o : Outcome (List Command)). o .code ≤ 1) (deferred c d) (λ _. omega arith) (λ _. omega arith) in
-        omega (arith, same, small)
-
-  accepted-rows : outcome c room d .code ≤ 1 → (callFault c d ≡ 0) × (bytes ≤ room)
-  accepted-rows small =
-      by-cases (λ b. eqb (callFault c d) 0 ≡ b → (callFault c d ≡ 0) × (bytes ≤ room)) (eqb (callFault c d) 0)
-      (λ _ e.
-      let ok = eqb-true (callFault c d) 0 e in (
-        ok,
-        by-cases (λ b. leb bytes room ≡ b → bytes ≤ room) (leb bytes room)
-            (λ _ fits. leb-true bytes room fits)
-            (λ _ short. let z : ⊥ = omega (arith, small, code-short ok (leb-false bytes room short)) in absurd z)
-            refl,
-      ))
-      (λ _ e. let z : ⊥ = omega (arith, small, code-refused (eqb-false (callFault c d) 0 e), fault-code c d (eqb-false (callFault c d) 0 e)) in absurd z)
-      refl
+    code-accepted : bytes ≤ room → outcome c room d .code ≡ plan c d .code
+    code-accepted h = code-planned ∙ ap (λ b. cond b (plan c d .code) 34) (le-leb bytes room h)
 
 pub numbers-given : NumbersGiven
-numbers-given c room d = ((accepted-rows c room d, λ p. code-accepted c room d (p .0) (p .1)), code-refused c room d, code-short c room d)
+numbers-given c room d = (code-refused c room d, code-short c room d, code-accepted c room d)
+
+pub opening-given : OpeningGiven
+opening-given watch down up = opening-code (length watch) watch down up
 
 pub refusal-closes : RefusalCloses
 unfolding opening refusedOpening

@@ -40,7 +40,7 @@ use Rattle.desk.specs.Refusal.{callFault}
 use Rattle.desk.specs.Plan.{deskAfter, raiseCommands, clearCommands, commandsOf, plan}
 use Rattle.desk.specs.Calls.{decided, framed, delivered, outcome, returned, bufferAfter}
 use Rattle.desk.specs.Demands.{Build, Turn, World, after, turn, turns, atOpening, afterOpening, standingAfter, overridden, Demand3For}
-use Rattle.desk.specs.Worthless.{AlwaysRefusesFalls, neverWrites, NeverWritesFalls, heldWrites, HeldWritesFalls, secondRaise, SecondRaiseFalls, restoresOnce, RestoresOnceFalls, restoresCopy, RestoresCopyFalls}
+use Rattle.desk.specs.Worthless.{AlwaysRefusesFalls, NeverOpensFalls, neverWrites, NeverWritesFalls, heldWrites, HeldWritesFalls, secondRaise, SecondRaiseFalls, restoresOnce, RestoresOnceFalls, restoresCopy, RestoresCopyFalls}
 
 -- ---- the runs: two watched IDs, of which 3 runs, limits of 1 and 2, and no other ID
 abbrev list : List Watch
@@ -74,7 +74,7 @@ never-writes-falls demand =
 pub held-writes-falls : HeldWritesFalls
 unfolding downOf heldWrites turns turn after afterOpening atOpening standingAfter overridden aloneAfter request returned bufferAfter outcome decided framed delivered plan deskAfter commandsOf raiseCommands clearCommands callFault sound limitsSound listSound withDown withOverride opening openCode openedWith places fault unused has place marked filtered isId isLimit framesOf commandFrame listing messageFrame frameOf payloadOf flatten hexHeader hexIn keyText encodeGiven encodeTag idList values encode decimal decimalBefore handed takes obeying commandIn contentCommand idsCommand limitCommand idsIn idsFrom obey listed frameReading skipFrom itemAt readFrame lengthReading payloadReading ascii hexValue headerIn readHeader sized hexDigit tagOf torrentIdOf keys numberFrom keyNumber classOf idEnd itemEnd itemsEnd listPart formatted tailAt messageReading payloadAt valueAt scalarAt integerAt integerFrom numeralAt digits stringAt listFrom repeat same
 held-writes-falls demand =
-    let z : _≡_ {A = ℕ} 5 1 = ap downOf (demand list (pos 1) (pos 2) (λ x. false) (lent (Call.Raise 3) ∷ lent (Call.Down (pos 5)) ∷ []) list-opened .1 3 refl) in
+    let z : _≡_ {A = ℕ} 0 1 = ap downOf (demand list (pos 1) (pos 2) (λ x. false) (lent (Call.Raise 3) ∷ lent (Call.Down (pos 5)) ∷ []) list-opened .1 3 refl) in
     omega arith
 
 pub second-raise-falls : SecondRaiseFalls
@@ -99,6 +99,11 @@ restores-copy-falls demand =
 
 pub always-refuses-falls : AlwaysRefusesFalls
 unfolding opening openCode openedWith places fault unused has isId isLimit sound limitsSound listSound callFault plan commandsOf framesOf commandFrame messageFrame frameOf payloadOf flatten hexHeader hexIn keys keyText classOf ascii hexDigit encodeGiven encodeTag encode decimal decimalBefore
-always-refuses-falls n large given =
-    let accepted : n ≤ 1 = given (Call.Down (pos 5)) 96 (opening 2 list (pos 1) (pos 2) .desk) .0 .1 (refl, omega arith) in
-    omega arith
+always-refuses-falls code refuses given =
+    let d = opening 2 list (pos 1) (pos 2) .desk in
+    let accepted : code (Call.Down (pos 5)) 96 d ≡ 0 = given (Call.Down (pos 5)) 96 d .2 refl (omega arith) in
+    omega (arith, accepted, refuses (Call.Down (pos 5)) 96 d)
+
+pub never-opens-falls : NeverOpensFalls
+unfolding openCode isLimit fault
+never-opens-falls code refuses given = refuses [] (pos 0) (pos 0) (given [] (pos 0) (pos 0))

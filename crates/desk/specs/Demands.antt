@@ -2,10 +2,9 @@
 -- Assumes nothing.
 use Prim.Native.Nat.{ℕ, _≤_, _<_}
 use mathlib.Core.Path.{_≡_}
-use mathlib.Core.Logic.{_↔_}
 use mathlib.Core.Bool.{Bool, true, cond, not, _&&_, _||_}
 use mathlib.Core.List.{List, [], _∷_, map}
-use mathlib.Core.Option.{Option, some}
+use mathlib.Core.Option.{Option, some, none}
 use lib.Dec.{eqb}
 use lib.IntN.{ℤ}
 use lib.ListN.{length, take}
@@ -15,7 +14,7 @@ use Rattle.desk.specs.declared.record.Desk.{Desk}
 use Rattle.desk.specs.Limit.{unlimited}
 use Rattle.desk.specs.Watch.{mostWatched, allIds, has, marked}
 use Rattle.desk.specs.Record.{closed}
-use Rattle.desk.specs.Opening.{opening}
+use Rattle.desk.specs.Opening.{openCode, opening}
 use Rattle.desk.specs.Command.{idList, framesOf, longest}
 use Rattle.desk.specs.Refusal.{callFault}
 use Rattle.desk.specs.Plan.{Outcome, plan}
@@ -72,12 +71,13 @@ pub record World (Record : Type 0) : Type 0 where
   pub alone : Machine
   pub standing : List ℕ
 
--- a call: the daemon takes the lent buffer's first bytes as the call left them, as many as its count
+-- a call: the daemon takes the lent buffer's first bytes as the call left them, as many as its count. A refused or held call gives
+-- it nothing: one with bytes is as bad as bytes that are no frames
 unfoldable pub after : {R : Type 0} → Turn → World R → Answered R → World R
 after t w a =
     record {
       record-now = a .record-after;
-      daemon = handed (take (a .count) (a .buffer)) (w .daemon);
+      daemon = cond (eqb (a .code) 0 || eqb (a .count) 0) (handed (take (a .count) (a .buffer)) (w .daemon)) none;
       alone = aloneAfter (t .call) (a .code) (w .alone);
       standing = standingAfter (t .call) (a .code) (w .standing);
     }
@@ -116,16 +116,23 @@ abbrev pub Demand3 : Type 0
 Demand3 = Demand3For desk
 
 -- ---- demand 1, beside the promises of the functions
--- each number is given when its row holds and never otherwise: a call is accepted exactly where no row holds, a row before the room
--- gives its code, and 34 is given where only the room is short
+-- each number is given when its row holds and never otherwise: the first row before the room gives its code, 34 is given where only
+-- the room is short, and else the call is accepted, with 0 or held with 1
 abbrev pub NumbersGivenFor : (Call → ℕ → Desk → ℕ) → Type 0
 NumbersGivenFor code = (c : Call) (room : ℕ) (d : Desk) → let bytes = length (framesOf (plan c d .sent)) in
-    ((code c room d ≤ 1) ↔ ((callFault c d ≡ 0) × (bytes ≤ room)))
-    × ((callFault c d ≡ 0 → ⊥) → code c room d ≡ callFault c d)
+    ((callFault c d ≡ 0 → ⊥) → code c room d ≡ callFault c d)
     × (callFault c d ≡ 0 → room < bytes → code c room d ≡ 34)
+    × (callFault c d ≡ 0 → bytes ≤ room → code c room d ≡ plan c d .code)
 
 abbrev pub NumbersGiven : Type 0
 NumbersGiven = NumbersGivenFor (λ c room d. outcome c room d .code)
+
+-- the same of an opening: 35, 30, then record by record 36, 37, and else 0
+abbrev pub OpeningGivenFor : (List Watch → ℤ → ℤ → ℕ) → Type 0
+OpeningGivenFor code = (watch : List Watch) (down up : ℤ) → code watch down up ≡ openCode (length watch) watch down up
+
+abbrev pub OpeningGiven : Type 0
+OpeningGiven = OpeningGivenFor (λ watch down up. opening (length watch) watch down up .code)
 
 -- a refused call returns the record as it was handed in and count 0, and leaves the lent buffer as it was
 abbrev pub RefusalKeeps : Type 0

@@ -2,24 +2,31 @@
 -- or demand 3 itself rules each of them out.
 -- Assumes nothing.
 use Prim.Native.Nat.{ℕ, _≤_}
+use mathlib.Core.Path.{_≡_}
 use mathlib.Core.Bool.{Bool, true, false, cond, not, _&&_}
 use mathlib.Core.List.{List, []}
 use lib.Dec.{eqb}
+use lib.IntN.{ℤ}
 use lib.ListN.{length}
 use Rattle.desk.specs.declared.calls.Call.{Call}
 use Rattle.desk.specs.declared.record.Desk.{Desk}
+use Rattle.desk.specs.declared.watch.Watch.{Watch}
 use Rattle.desk.specs.Record.{withOverride}
 use Rattle.desk.specs.Opening.{opening}
 use Rattle.desk.specs.Command.{framesOf}
-use Rattle.desk.specs.Refusal.{raisesAgain}
+use Rattle.desk.specs.Refusal.{stands, raisesAgain}
 use Rattle.desk.specs.Plan.{Outcome, commandsOf}
 use Rattle.desk.specs.Calls.{outcome, returned, bufferAfter}
-use Rattle.desk.specs.Demands.{Answered, Build, buildOf, NumbersGivenFor, Demand3For}
+use Rattle.desk.specs.Demands.{Answered, Build, buildOf, NumbersGivenFor, OpeningGivenFor, Demand3For}
 
 -- ---- by demand 1
--- a desk that refuses always, by whatever number
+-- a desk that refuses always, by whatever numbers
 abbrev pub AlwaysRefusesFalls : Type 0
-AlwaysRefusesFalls = (n : ℕ) → 2 ≤ n → NumbersGivenFor (λ c room d. n) → ⊥
+AlwaysRefusesFalls = (code : Call → ℕ → Desk → ℕ) → ((c : Call) (room : ℕ) (d : Desk) → 2 ≤ code c room d) → NumbersGivenFor code → ⊥
+
+-- one that refuses every opening
+abbrev pub NeverOpensFalls : Type 0
+NeverOpensFalls = (code : List Watch → ℤ → ℤ → ℕ) → ((watch : List Watch) (down up : ℤ) → code watch down up ≡ 0 → ⊥) → OpeningGivenFor code → ⊥
 
 -- ---- by demand 3
 -- a desk that records but never writes
@@ -80,7 +87,7 @@ restoresOnce = record {
   opened = λ watch down up. record { now = opening (length watch) watch down up .desk; kept = false };
   called = λ c before r.
       let o = outcome c (length before) (r .now) in
-      answered (cond (isClear c && r .kept) (silent o) o) before (cond (isClear c) true (r .kept));
+      answered (cond (isClear c && r .kept) (silent o) o) before (cond (isClear c && eqb (o .code) 0) true (r .kept));
 }
 
 abbrev pub RestoresOnceFalls : Type 0
@@ -92,7 +99,7 @@ restoresCopy = record {
   Record = Beside Desk;
   opened = λ watch down up. let d = opening (length watch) watch down up .desk in record { now = d; kept = d };
   called = λ c before r.
-      let o = outcome c (length before) (cond (isClear c) (r .kept) (r .now)) in
+      let o = outcome c (length before) (cond (isClear c && stands (r .now)) (r .kept) (r .now)) in
       answered o before (cond (isRaise c && eqb (o .code) 0) (o .desk) (r .kept));
 }
 
