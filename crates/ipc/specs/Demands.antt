@@ -160,12 +160,21 @@ BufferReadsBack = (key tag n : ℕ) (given : Given) (s before after : List ℕ) 
     → Outcome (writeAnswer key given s tag (length before)) (payloadOf key given s tag) before (Written.Count n) after
     → (c : Content) × (readFrame after ≡ accepted n key tag c) × Named (classOf key) (frameOf (payloadOf key given s tag)) given s c
 
+-- a writer of handshakes: what it answers to a range in a room, and the frame that it leaves
+pub record HandshakeWriter : Type 0 where
+  pub answer : ℕ → ℕ → ℕ → Written
+  pub frame : ℕ → ℕ → List ℕ
+
+-- ours
+abbrev pub handshakeWriter : HandshakeWriter
+handshakeWriter = record { answer = handshakeWritten; frame = λ low high. frameOf (handshakePayload low high) }
+
 -- each handshake written reads back as its range
-abbrev pub HandshakeReadsBackFor : (ℕ → ℕ → ℕ → Written) → Type 0
-HandshakeReadsBackFor answer = (low high room n : ℕ) (rest : List ℕ) → answer low high room ≡ Written.Count n → readFrame (frameOf (handshakePayload low high) ++ rest) ≡ acceptedHandshake n low high
+abbrev pub HandshakeReadsBackFor : HandshakeWriter → Type 0
+HandshakeReadsBackFor w = (low high room n : ℕ) (rest : List ℕ) → w .answer low high room ≡ Written.Count n → readFrame (w .frame low high ++ rest) ≡ acceptedHandshake n low high
 
 abbrev pub HandshakeReadsBack : Type 0
-HandshakeReadsBack = HandshakeReadsBackFor handshakeWritten
+HandshakeReadsBack = HandshakeReadsBackFor handshakeWriter
 
 -- the value to hand in for what a reader named, and the bytes of it
 abbrev pub givenOf : Content → Given

@@ -10,7 +10,7 @@ use Rattle.ipc.specs.Answer.{Answer}
 use Rattle.ipc.specs.Header.{largestPayload}
 use Rattle.ipc.specs.Write.{frameOf}
 use Rattle.ipc.specs.Greeting.{handshakeWritten}
-use Rattle.ipc.specs.Demands.{AcceptsExactlyFor, AnswersByRowFor, GivenFits, Writer, writer, ReadsBackFor, HandshakeReadsBackFor, WritesBackFor}
+use Rattle.ipc.specs.Demands.{AcceptsExactlyFor, AnswersByRowFor, GivenFits, Writer, writer, ReadsBackFor, handshakeWriter, HandshakeReadsBackFor, WritesBackFor}
 
 -- a reader that refuses always, with whatever numbers, falls by demand 1, and by demand 2
 abbrev pub RefusingReaderFalls : Type 0
@@ -35,7 +35,8 @@ abbrev pub OneMoreFalls : Type 0
 OneMoreFalls = ReadsBackFor (record { answer = λ key given s tag room. oneMore (writer .answer key given s tag room); frame = writer .frame }) → ⊥
 
 abbrev pub HandshakeOneMoreFalls : Type 0
-HandshakeOneMoreFalls = HandshakeReadsBackFor (λ low high room. oneMore (handshakeWritten low high room)) → ⊥
+HandshakeOneMoreFalls =
+    HandshakeReadsBackFor (record { answer = λ low high room. oneMore (handshakeWritten low high room); frame = handshakeWriter .frame }) → ⊥
 
 -- a writer that refuses always falls by demand 2: what is read is not written again
 abbrev pub RefusingWriterFalls : Type 0
