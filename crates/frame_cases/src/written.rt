@@ -4,11 +4,11 @@ use super::number::number_at;
 use bencode::bytes::byte_at;
 use cases::print;
 use cases::print_number;
-use ipc::greeting::write_handshake;
 use ipc::versions::agreed_version;
 use ipc::write::Given;
 use ipc::write::Written;
 use ipc::write::write;
+use ipc::write_handshake::write_handshake;
 
 // The bytes of a case of `w` before those that are handed in, and of cases of `s` and `a`.
 const MESSAGE_HEAD: usize = 21;

@@ -150,9 +150,9 @@ module _ (used : ℕ) (a : Answer) (code : a .code ≡ 0) (kind : a .kind ≡ me
   list-meant (value (list us) vs) e = refusal 20 0 (λ n. omega arith) e
   list-meant (value (dictionary es) vs) e = refusal 20 0 (λ n. omega arith) e
 
-  greeting-none : {P : Type 0} (o : OptionalVersions) → versionsAnswer used o ≡ a → P
-  greeting-none OptionalVersions.None e = refusal 21 0 (λ n. omega arith) e
-  greeting-none (OptionalVersions.Range r) e =
+  handshake-none : {P : Type 0} (o : OptionalVersions) → versionsAnswer used o ≡ a → P
+  handshake-none OptionalVersions.None e = refusal 21 0 (λ n. omega arith) e
+  handshake-none (OptionalVersions.Range r) e =
       let k : handshake ≡ message = ap (λ (y : Answer). y .kind) e ∙ kind in
       let n : _≡_ {A = ℕ} 0 1 = cc in
       absurd (omega arith)
@@ -162,4 +162,4 @@ module _ (used : ℕ) (a : Answer) (code : a .code ≡ 0) (kind : a .kind ≡ me
   inverts (integer z) e = refusal 20 0 (λ n. omega arith) e
   inverts (string text) e = refusal 20 0 (λ n. omega arith) e
   inverts (list vs) e = list-meant vs e
-  inverts (dictionary es) e = greeting-none (versionsOf (lookup (ascii "version") es)) e
+  inverts (dictionary es) e = handshake-none (versionsOf (lookup (ascii "version") es)) e

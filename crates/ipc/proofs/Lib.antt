@@ -13,7 +13,7 @@ pub mod Accepts
 pub mod Tried
 pub mod HexLaws
 pub mod OutcomeLaws
-pub mod GreetingLaws
+pub mod WriteHandshakeLaws
 pub mod ClassLaws
 pub mod CheckLaws
 pub mod LengthLaws

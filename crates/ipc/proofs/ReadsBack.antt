@@ -29,7 +29,7 @@ use Rattle.ipc.specs.declared.write.Given.{Given}
 use Rattle.ipc.specs.declared.write.Written.{Written}
 use Rattle.ipc.specs.Answer.{Answer, part, accepted, acceptedHandshake, contentOf}
 use Rattle.ipc.specs.Frame.{readFrame}
-use Rattle.ipc.specs.Greeting.{handshakeValue, handshakePayload, rangeWritten, handshakeWritten}
+use Rattle.ipc.specs.WriteHandshake.{handshakeValue, handshakePayload, rangeWritten, handshakeWritten}
 use Rattle.ipc.specs.Header.{headerLength, largestPayload}
 use Rattle.ipc.specs.Hex.{hexHeader}
 use Rattle.ipc.specs.Ids.{largestTag, tagOf}

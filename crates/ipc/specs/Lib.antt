@@ -10,6 +10,7 @@ pub mod Handshake
 pub mod Frame
 pub mod Hex
 pub mod Write
+pub mod WriteHandshake
 pub mod Greeting
 pub mod Meaning
 pub mod Tries

@@ -1,7 +1,6 @@
 // Frames of Transmission's IPC protocol, version 2: eight hex digits of length, then a bencoded message or handshake.
 mod check;
 mod format;
-pub mod greeting;
 mod handshake;
 pub mod header;
 mod hex;
@@ -14,3 +13,4 @@ pub mod read;
 pub mod reading;
 pub mod versions;
 pub mod write;
+pub mod write_handshake;

@@ -9,7 +9,7 @@ use Rattle.frame_cases.proofs.written.print_handshake.Reads as reads
 use Rattle.frame_cases.proofs.written.print_handshake.Lts as lts
 use Rattle.frame_cases.proofs.number.number_at.Reads as number-at-reads
 use Rattle.frame_cases.proofs.written.print_written.Reads as print-written-reads
-use Rattle.ipc.proofs.greeting.write_handshake.Reads as write-handshake-reads
+use Rattle.ipc.proofs.write_handshake.write_handshake.Reads as write-handshake-reads
 
 number-at-requires : tie.Need-number-at-requires
 number-at-requires c κs = search needs

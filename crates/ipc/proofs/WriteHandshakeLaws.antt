@@ -12,7 +12,7 @@ use Rattle.bencode.specs.Ascii.{ascii}
 use Rattle.ipc.specs.declared.versions.Versions.{Versions}
 use Rattle.ipc.specs.declared.versions.OptionalVersions.{OptionalVersions}
 use Rattle.ipc.specs.declared.write.Written.{Written}
-use Rattle.ipc.specs.Greeting.{handshakePayload, rangeWritten, handshakeWritten}
+use Rattle.ipc.specs.WriteHandshake.{handshakePayload, rangeWritten, handshakeWritten}
 use Rattle.ipc.specs.Versions.{rangeOf}
 use Rattle.ipc.specs.Write.{fitted}
 

@@ -4,7 +4,7 @@ ghost use Prim.Native.Nat.{_≤_};
 ghost use lib.ListN.{length};
 ghost use Rattle.bencode.specs.Put.{Wrote};
 ghost use Rattle.ipc.specs.Write.{frameOf, fitted, Outcome};
-ghost use Rattle.ipc.specs.Greeting.{handshakePayload, handshakeWritten};
+ghost use Rattle.ipc.specs.WriteHandshake.{handshakePayload, handshakeWritten};
 use super::header::HEADER_LENGTH;
 use super::hex::hex_header;
 use super::versions::OptionalVersions;

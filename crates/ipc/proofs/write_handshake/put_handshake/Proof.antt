@@ -1,4 +1,4 @@
--- `ipc::greeting::put_handshake` puts the parts of the frame one after the other.
+-- `ipc::write_handshake::put_handshake` puts the parts of the frame one after the other.
 -- Assumes nothing.
 use Prim.Native.Nat.{ℕ, _<_, _^_}
 use mathlib.Core.List.{List, [], _∷_}
@@ -11,11 +11,11 @@ use Rattle.bencode.proofs.PutLaws.{Writing, next-put}
 use Rattle.bencode.specs.Ascii.{ascii}
 use Rattle.bencode.proofs.Ranges.{natural-machine}
 use Rattle.ipc.specs.Hex.{hexHeader}
-use Rattle.ipc.specs.Greeting.{handshakePayload}
+use Rattle.ipc.specs.WriteHandshake.{handshakePayload}
 use Rattle.ipc.proofs.OutcomeLaws.{frame-start, frame-finish}
-use Rattle.ipc.proofs.GreetingLaws.{handshakeParts, handshake-parts}
-use Rattle.ipc.proofs.greeting.put_handshake.Statement.{statement}
-use Rattle.ipc.proofs.greeting.put_handshake.Tie as tie
+use Rattle.ipc.proofs.WriteHandshakeLaws.{handshakeParts, handshake-parts}
+use Rattle.ipc.proofs.write_handshake.put_handshake.Statement.{statement}
+use Rattle.ipc.proofs.write_handshake.put_handshake.Tie as tie
 
 -- what is left to write
 abbrev Left : tie.Start → List ℕ → ℕ → List (List ℕ) → Type 0

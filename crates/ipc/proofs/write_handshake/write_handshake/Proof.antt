@@ -1,16 +1,16 @@
--- `ipc::greeting::write_handshake` meets its contract.
+-- `ipc::write_handshake::write_handshake` meets its contract.
 -- Assumes nothing.
 use mathlib.Core.Path.{sym, _∙_}
 use native.Mathlib.Omega.{arith}
 use denote.Ref.{now}
 use lib.ListN.{length}
-use Rattle.ipc.specs.Greeting.{handshakePayload, handshakeWritten}
-use Rattle.ipc.proofs.GreetingLaws.{written-range, written-none}
+use Rattle.ipc.specs.WriteHandshake.{handshakePayload, handshakeWritten}
+use Rattle.ipc.proofs.WriteHandshakeLaws.{written-range, written-none}
 use Rattle.ipc.proofs.OutcomeLaws.{outcome-same, outcome-refused}
 use Rattle.ipc.proofs.VersionLaws.{range-machine}
 use borrow.Author.Needs.{needs}
-use Rattle.ipc.proofs.greeting.write_handshake.Statement.{statement}
-use Rattle.ipc.proofs.greeting.write_handshake.Tie as tie
+use Rattle.ipc.proofs.write_handshake.write_handshake.Statement.{statement}
+use Rattle.ipc.proofs.write_handshake.write_handshake.Tie as tie
 
 cast-new : tie.Need-cast-new
 cast-new c = search needs

@@ -1,4 +1,4 @@
--- `ipc::greeting::write_range` refuses with 44, or writes the frame and counts its bytes.
+-- `ipc::write_handshake::write_range` refuses with 44, or writes the frame and counts its bytes.
 -- Assumes nothing.
 use Prim.Native.Nat.{ℕ, _+_, _≤_, _<_, _^_}
 use mathlib.Core.Path.{_≡_}
@@ -12,11 +12,11 @@ use Rattle.bencode.specs.Value.{integer, encode}
 use Rattle.bencode.proofs.Ranges.{natural-machine}
 use Rattle.ipc.specs.Header.{headerLength, largestPayload}
 use Rattle.ipc.specs.Write.{frameOf}
-use Rattle.ipc.specs.Greeting.{handshakePayload}
+use Rattle.ipc.specs.WriteHandshake.{handshakePayload}
 use Rattle.ipc.proofs.OutcomeLaws.{frame-length, outcome-44, outcome-count}
-use Rattle.ipc.proofs.GreetingLaws.{handshake-length}
-use Rattle.ipc.proofs.greeting.write_range.Statement.{statement}
-use Rattle.ipc.proofs.greeting.write_range.Tie as tie
+use Rattle.ipc.proofs.WriteHandshakeLaws.{handshake-length}
+use Rattle.ipc.proofs.write_handshake.write_range.Statement.{statement}
+use Rattle.ipc.proofs.write_handshake.write_range.Tie as tie
 
 -- the payload of a call, and its length as it is computed
 abbrev payload : tie.Start → List ℕ
