@@ -1,6 +1,6 @@
 // The reader, the writers and the walk of a payload for C and Rust, on numbers and byte slices. include/bogsilver.h has the
 // C side, include/bogsilver.rs the Rust side.
-mod greeting;
+mod handshake;
 mod offered;
 mod read;
 mod walk;

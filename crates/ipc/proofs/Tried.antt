@@ -24,7 +24,7 @@ use Rattle.ipc.specs.Message.{tailAt, messageReading}
 use Rattle.ipc.specs.Versions.{rangeOf}
 use Rattle.ipc.specs.Handshake.{rangeAt, dictionaryVersions, handshakeReading}
 use Rattle.ipc.specs.Frame.{payloadReading, lengthReading, frameReading, readFrame}
-use Rattle.ipc.specs.Greeting.{handshakePayload}
+use Rattle.ipc.specs.WriteHandshake.{handshakePayload}
 use Rattle.ipc.specs.Hex.{hexDigit, hexIn, hexHeader}
 use Rattle.ipc.specs.Write.{encodeGiven, encodeTag, payloadOf, frameOf}
 use Rattle.ipc.specs.Tries.{tries, FramesTried, FramesWritten}

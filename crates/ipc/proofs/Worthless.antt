@@ -15,7 +15,7 @@ use Rattle.ipc.specs.declared.write.Written.{Written}
 use Rattle.ipc.specs.Answer.{Answer, message, integer, refused, accepted}
 use Rattle.bencode.specs.Ascii.{ascii}
 use Rattle.ipc.specs.Frame.{readFrame}
-use Rattle.ipc.specs.Greeting.{handshakePayload, handshakeWritten}
+use Rattle.ipc.specs.WriteHandshake.{handshakePayload, handshakeWritten}
 use Rattle.ipc.specs.Header.{headerLength, largestPayload}
 use Rattle.ipc.specs.Hex.{hexIn, hexHeader}
 use Rattle.ipc.specs.Keys.{listed, classOf, isWritten}

@@ -25,7 +25,7 @@ use Rattle.ipc.specs.Hex.{upperHeader}
 use Rattle.ipc.specs.Keys.{classOf, isWritten}
 use Rattle.ipc.specs.Meaning.{isId, every, meaning}
 use Rattle.ipc.specs.Write.{codeOf, countOf, isIdList, payloadOf, frameOf, writeAnswer, Outcome}
-use Rattle.ipc.specs.Greeting.{handshakePayload, handshakeWritten}
+use Rattle.ipc.specs.WriteHandshake.{handshakePayload, handshakeWritten}
 
 -- bytes that are hex digits of either case
 pub data HexDigits : List ℕ → Type 0 where

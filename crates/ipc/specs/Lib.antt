@@ -11,7 +11,6 @@ pub mod Frame
 pub mod Hex
 pub mod Write
 pub mod WriteHandshake
-pub mod Greeting
 pub mod Meaning
 pub mod Tries
 pub mod Demands

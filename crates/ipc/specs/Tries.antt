@@ -8,7 +8,7 @@ use Rattle.ipc.specs.declared.write.Given.{Given}
 use Rattle.ipc.specs.Answer.{Answer, integer, part, refused, accepted, acceptedHandshake, offFormat}
 use Rattle.bencode.specs.Ascii.{ascii}
 use Rattle.ipc.specs.Frame.{readFrame}
-use Rattle.ipc.specs.Greeting.{handshakePayload}
+use Rattle.ipc.specs.WriteHandshake.{handshakePayload}
 use Rattle.ipc.specs.Write.{payloadOf, frameOf}
 
 -- a frame and its answer

@@ -9,7 +9,7 @@ use Rattle.ipc.specs.declared.write.Written.{Written}
 use Rattle.ipc.specs.Answer.{Answer}
 use Rattle.ipc.specs.Header.{largestPayload}
 use Rattle.ipc.specs.Write.{frameOf}
-use Rattle.ipc.specs.Greeting.{handshakeWritten}
+use Rattle.ipc.specs.WriteHandshake.{handshakeWritten}
 use Rattle.ipc.specs.Demands.{AcceptsExactlyFor, AnswersByRowFor, GivenFits, Writer, writer, ReadsBackFor, handshakeWriter, HandshakeReadsBackFor, WritesBackFor}
 
 -- a reader that refuses always, with whatever numbers, falls by demand 1, and by demand 2

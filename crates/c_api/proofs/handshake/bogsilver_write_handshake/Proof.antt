@@ -1,9 +1,9 @@
--- `c_api::greeting::bogsilver_write_handshake` meets its contract.
+-- `c_api::handshake::bogsilver_write_handshake` meets its contract.
 -- Assumes nothing.
 use borrow.Author.Needs.{needs}
 use Rattle.c_api.proofs.AnswerLaws.{outcome-numbers}
-use Rattle.c_api.proofs.greeting.bogsilver_write_handshake.Statement.{statement}
-use Rattle.c_api.proofs.greeting.bogsilver_write_handshake.Tie as tie
+use Rattle.c_api.proofs.handshake.bogsilver_write_handshake.Statement.{statement}
+use Rattle.c_api.proofs.handshake.bogsilver_write_handshake.Tie as tie
 
 write-handshake-requires : tie.Need-write-handshake-requires
 write-handshake-requires c κs = search needs
