@@ -24,7 +24,7 @@ use Rattle.bencode.specs.String.{stringAt, textEnd}
 use Rattle.bencode.specs.Integer.{signed, integerFrom, integerAt, numberEnd}
 use Rattle.bencode.specs.Scalar.{scalarAt}
 use Rattle.bencode.proofs.NumeralLaws.{inside, digits-below, digits-above, numeral-digits}
-use Rattle.bencode.proofs.LoopLaws.{Past}
+use Rattle.bencode.specs.Loop.{Past}
 
 -- a string's text, as the definition has it
 pub record Whole (s : List ℕ) (at start end : ℕ) : Type 0 where

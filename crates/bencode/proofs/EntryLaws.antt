@@ -10,11 +10,11 @@ use Rattle.bencode.specs.declared.entry.Entry.{Entry}
 use Rattle.bencode.specs.declared.fault.Fault.{Fault}
 use Rattle.bencode.specs.declared.string.Text.{Text}
 use Rattle.bencode.specs.Bytes.{part, same}
-use Rattle.bencode.specs.Loop.{next, done, after, repeat}
+use Rattle.bencode.specs.Loop.{next, done, after, repeat, Past, Onward}
 use Rattle.bencode.specs.String.{stringAt}
 use Rattle.bencode.specs.Skip.{skipValue}
 use Rattle.bencode.specs.Entry.{matched, findStep, entryAt}
-use Rattle.bencode.proofs.LoopLaws.{Past, Onward, repeat-step}
+use Rattle.bencode.proofs.LoopLaws.{repeat-step}
 use Rattle.bencode.proofs.Ends.{string-whole-inv}
 use Rattle.bencode.proofs.SkipLaws.{skip-range}
 

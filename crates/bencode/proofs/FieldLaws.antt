@@ -26,7 +26,7 @@ use Rattle.bencode.specs.Value.{integer, string, list, dictionary, Entri
 use Rattle.bencode.specs.Demands.{Located, Shows, ShowsValue, ShowsFound, FindsField}
 use Rattle.bencode.proofs.field.Field.{the-type}
 use Rattle.bencode.proofs.Ends.{integer-fits, integer-ends}
-use Rattle.bencode.proofs.LoopLaws.{Past}
+use Rattle.bencode.specs.Loop.{Past}
 use Rattle.bencode.proofs.EntryLaws.{find-past}
 use Rattle.bencode.proofs.Ranges.{machine, same}
 use Rattle.bencode.proofs.Lookups.{starts, items-begin, entries-begin, reads-integer, reads-string, finds-entry}

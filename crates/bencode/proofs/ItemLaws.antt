@@ -12,7 +12,7 @@ use Rattle.bencode.specs.declared.item.Item.{Item}
 use Rattle.bencode.specs.Bytes.{byteAt}
 use Rattle.bencode.specs.Skip.{skipValue}
 use Rattle.bencode.specs.Item.{itemAt}
-use Rattle.bencode.proofs.LoopLaws.{Past}
+use Rattle.bencode.specs.Loop.{Past}
 use Rattle.bencode.proofs.SkipLaws.{skip-range}
 
 module _ (s : List ℕ) (at : ℕ) where

@@ -20,7 +20,7 @@ use Rattle.bencode.specs.Walk.{valueAt}
 use Rattle.bencode.specs.Skip.{skipValue}
 use Rattle.bencode.specs.Entry.{entryAt}
 use Rattle.bencode.specs.KeySearch.{foundBefore, usedAt, aboveText, aboveAt, unsorted, keyAt}
-use Rattle.bencode.proofs.LoopLaws.{Past}
+use Rattle.bencode.specs.Loop.{Past}
 use Rattle.bencode.proofs.Ends.{string-whole-inv}
 use Rattle.bencode.proofs.WalkLaws.{value-ends}
 use Rattle.bencode.proofs.Order.{clash, same-refl, less-irrefl, Under, above-all, above-unused, not-above, under-above, used-head, used-tail}

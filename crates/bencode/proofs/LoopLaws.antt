@@ -11,15 +11,7 @@ use lib.ListN.{length}
 use Rattle.bencode.specs.declared.fault.Fault.{Fault}
 use Rattle.bencode.specs.declared.fault.Walk.{Walk}
 use Rattle.bencode.specs.Bytes.{byteAt}
-use Rattle.bencode.specs.Loop.{Step, next, done, after, repeat, repeatFrom, itemStep, itemsFrom}
-
--- e is after an offset, and no further than the payload's end
-abbrev pub Past : List ℕ → ℕ → ℕ → Type 0
-Past s at e = (at < e) × (e ≤ length s)
-
--- each step that goes on ends further right
-abbrev pub Onward : {X A : Type 0} → List ℕ → (ℕ → X → Step X A) → Type 0
-Onward {X} s step = (at : ℕ) (x : X) (to : ℕ) (y : X) → step at x ≡ next to y → Past s at to
+use Rattle.bencode.specs.Loop.{Step, next, done, after, repeat, repeatFrom, itemStep, itemsFrom, Past, Onward, Unrolls}
 
 -- the fuel does not matter where it is more than the bytes left
 repeat-enough : {X A : Type 0} (s : List ℕ) (step : ℕ → X → Step X A) → Onward s step → (a b : A) (n m at : ℕ) (x : X) → length s - at < n → length s - at < m → repeat step a n at x ≡ repeat step b m at x
@@ -40,6 +32,9 @@ repeat-step {X} {A} s step h d at x = go (step at x) refl
     go : (t : Step X A) → step at x ≡ t → after t (λ to y. repeat step (d at) (length s - at) to y) ≡ after t (λ to y. repeatFrom s step (d to) to y)
     go (next to y) e = repeat-enough s step h (d at) (d to) (length s - at) (suc (length s - to)) to y (omega (arith, h at x to y e)) (omega arith)
     go (done r) e = refl
+
+pub unrolls : Unrolls
+unrolls X A s step h d at x = repeat-step s step h d at x
 
 -- a walk by steps ends further right where each last step does
 pub repeat-end : {X : Type 0} (s : List ℕ) (step : ℕ → X → Step X Walk) → Onward s step → ((at : ℕ) (x : X) (e : ℕ) → step at x ≡ done (Walk.End e) → Past s at e) → (f : Fault) (n at : ℕ) (x : X) (e : ℕ) → repeat step (Walk.Fault f) n at x ≡ Walk.End e → Past s at e

@@ -16,12 +16,12 @@ use Rattle.bencode.specs.Bytes.{byteAt, part}
 use Rattle.bencode.specs.Fault.{fault}
 use Rattle.bencode.specs.String.{stringAt}
 use Rattle.bencode.specs.Key.{keyFault}
-use Rattle.bencode.specs.Loop.{Step, next, done, after, repeat}
+use Rattle.bencode.specs.Loop.{Step, next, done, after, repeat, Past, Onward}
 use Rattle.bencode.specs.Scalar.{scalarAt}
 use Rattle.bencode.specs.Walk.{onward, listStep, listFrom, entryStep, dictionaryStep, dictionaryFrom, valueAt}
 use Rattle.bencode.specs.Skip.{opens, landed, pastScalar, skipStep, skipFrom}
 use Rattle.bencode.proofs.NumeralLaws.{inside}
-use Rattle.bencode.proofs.LoopLaws.{Past, Onward, repeat-step}
+use Rattle.bencode.proofs.LoopLaws.{repeat-step}
 use Rattle.bencode.proofs.Order.{clash}
 use Rattle.bencode.proofs.Ends.{string-whole-inv, scalar-ends}
 

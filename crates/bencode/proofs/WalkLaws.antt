@@ -15,12 +15,12 @@ use Rattle.bencode.specs.declared.profile.Profile.{Profile}
 use Rattle.bencode.specs.Bytes.{byteAt, part}
 use Rattle.bencode.specs.Fault.{fault}
 use Rattle.bencode.specs.String.{stringAt}
-use Rattle.bencode.specs.Loop.{next, done, after}
+use Rattle.bencode.specs.Loop.{next, done, after, Past, Onward}
 use Rattle.bencode.specs.Key.{keyFault}
 use Rattle.bencode.specs.Scalar.{scalarAt}
 use Rattle.bencode.specs.Walk.{onward, listStep, listFrom, entryStep, dictionaryStep, dictionaryFrom, valueAt, listAt, dictionaryAt}
 use Rattle.bencode.proofs.NumeralLaws.{inside}
-use Rattle.bencode.proofs.LoopLaws.{Past, Onward, repeat-step, repeat-end}
+use Rattle.bencode.proofs.LoopLaws.{repeat-step, repeat-end}
 use Rattle.bencode.proofs.Ends.{string-whole-inv, scalar-ends}
 
 -- a walker of values ends after where it starts

@@ -1,7 +1,8 @@
 -- A loop over a payload, as a function: steps from an offset on. In every loop here each step ends further right, so the
 -- number of steps below is enough (proofs/LoopLaws: `repeat-step` takes one step off any loop, with no word of the number).
 -- Assumes nothing.
-use Prim.Native.Nat.{ℕ, zero, suc, _+_, _-_}
+use Prim.Native.Nat.{ℕ, zero, suc, _+_, _-_, _<_, _≤_}
+use mathlib.Core.Path.{_≡_}
 use mathlib.Core.Bool.{cond}
 use mathlib.Core.List.{List}
 use lib.Dec.{eqb}
@@ -34,3 +35,18 @@ itemStep s end item at x = cond (eqb (byteAt s at) letterE) (done (end (at + 1) 
 -- the steps over the items of a list from an offset on, and the answer `none` where they do not end
 abbrev pub itemsFrom : {X A : Type 0} → List ℕ → (ℕ → X → A) → (ℕ → X → Step X A) → (ℕ → A) → ℕ → X → A
 itemsFrom s end item none at x = repeatFrom s (itemStep s end item) (none at) at x
+
+-- ---- what makes the fuel no part of a loop's meaning
+-- e is after an offset, and no further than the payload's end
+abbrev pub Past : List ℕ → ℕ → ℕ → Type 0
+Past s at e = (at < e) × (e ≤ length s)
+
+-- each step that goes on ends further right
+abbrev pub Onward : {X A : Type 0} → List ℕ → (ℕ → X → Step X A) → Type 0
+Onward {X} s step = (at : ℕ) (x : X) (to : ℕ) (y : X) → step at x ≡ next to y → Past s at to
+
+-- where each step that goes on ends further right, a loop is one step and then the loop from where it ended: neither the fuel nor
+-- the answer for no end is ever met
+abbrev pub Unrolls : Type 1
+Unrolls = (X A : Type 0) (s : List ℕ) (step : ℕ → X → Step X A) → Onward s step → (d : ℕ → A) (at : ℕ) (x : X)
+    → repeatFrom s step (d at) at x ≡ after (step at x) (λ to y. repeatFrom s step (d to) to y)

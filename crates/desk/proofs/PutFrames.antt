@@ -40,9 +40,6 @@ front-of bytes rest buffer n e b =
 pub front-wrote : {bytes before after : List ℕ} {n : ℕ} → length bytes ≤ length before → Wrote before 0 bytes after n → Front bytes after n
 front-wrote {bytes} {before} {after} {n} h w = front-of bytes (drop (length bytes) before) after n (omega (arith, w .ended)) (wrote-front h w)
 
-pub front-put : {bytes before after : List ℕ} {n : ℕ} → length bytes ≤ length before → Put before 0 bytes after n → Front bytes after n
-front-put h p = front-wrote h (put-wrote (omega arith) p)
-
 -- the count of the bytes that are taken
 pub front-count : {bytes buffer : List ℕ} {n : ℕ} → Front bytes buffer n → n ≡ length (take n buffer)
 front-count f = f .counted ∙ ap length (sym (f .front))

@@ -49,9 +49,6 @@ list = record { id = 3; running = true } ∷ record { id = 8; running = false } 
 abbrev lent : Call → Turn
 lent c = record { call = c; buffer = replicate 96 0 }
 
-abbrev after-calls : (b : Build) → List Turn → World (b .Record)
-after-calls b calls = turns b calls (afterOpening b list (pos 1) (pos 2) (λ x. false))
-
 list-opened : opening 2 list (pos 1) (pos 2) .code ≡ 0
 unfolding opening openCode isLimit fault isId has
 list-opened = refl

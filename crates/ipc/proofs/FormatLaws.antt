@@ -19,12 +19,12 @@ use Rattle.bencode.specs.Ascii.{ascii}
 use Rattle.bencode.specs.Bytes.{byteAt}
 use Rattle.bencode.specs.Field.{fieldOf, ifInteger}
 use Rattle.bencode.specs.Integer.{integerAt, within}
-use Rattle.bencode.specs.Loop.{next}
+use Rattle.bencode.specs.Loop.{next, Past, Onward}
 use Rattle.bencode.specs.Skip.{skipRest}
 use Rattle.bencode.specs.String.{stringAt}
 use Rattle.bencode.proofs.Ends.{integer-fits, integer-ends, string-whole-inv}
 use Rattle.bencode.proofs.FieldLaws.{NoInteger, integer-other, field-ends}
-use Rattle.bencode.proofs.LoopLaws.{Past, Onward, items-end, items-done, items-next}
+use Rattle.bencode.proofs.LoopLaws.{items-end, items-done, items-next}
 use Rattle.bencode.proofs.Ranges.{machine, natural-machine, same, too-low, too-high, in-range}
 use Rattle.bencode.proofs.SkipLaws.{skip-range}
 use Rattle.ipc.specs.declared.format.Checked.{Checked}
