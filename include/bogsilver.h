@@ -120,7 +120,7 @@ struct bogsilver_answer {
     struct bogsilver_content value;
 };
 
-/* Where a payload's fault is: its code, 5 to 11, and its offset; or 0 and the payload's length. */
+/* Where a payload's fault is: its code, 5 to 9 or 11, and its offset; or 0 and the payload's length. */
 struct bogsilver_walk_answer {
     uint8_t code;
     size_t offset;

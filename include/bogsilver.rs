@@ -3,17 +3,43 @@
 // Each program uses a part of it.
 #![allow(dead_code)]
 
+/// Limits; the header's comments say what each is of.
 pub const HEADER_LENGTH: usize = 8;
-pub const LARGEST_FRAME: usize = HEADER_LENGTH + 32768;
+pub const LARGEST_PAYLOAD: usize = 32768;
+pub const LARGEST_FRAME: usize = HEADER_LENGTH + LARGEST_PAYLOAD;
+pub const LARGEST_PROTOCOL_PAYLOAD: u32 = 2147483640;
+pub const LARGEST_DEPTH: u8 = 16;
+pub const LARGEST_TAG: u32 = 2147483647;
+pub const LARGEST_TORRENT_ID: u32 = 2147483647;
+pub const LARGEST_VERSION: u32 = 2147483647;
+pub const LARGEST_PORT: u16 = 65535;
 
 /// Codes of the reader.
 pub const ACCEPTED: u8 = 0;
 pub const INCOMPLETE: u8 = 1;
 pub const NO_DIGIT: u8 = 2;
 pub const OVER_PROTOCOL: u8 = 3;
+pub const OVER_LIMIT: u8 = 4;
+pub const SYNTAX: u8 = 5;
+pub const RANGE: u8 = 6;
+pub const DEPTH: u8 = 7;
+pub const REPEATED_KEY: u8 = 8;
+pub const TRAILING: u8 = 9;
+/// Of a strict walk alone.
+pub const UNSORTED_KEY: u8 = 11;
+pub const NO_MESSAGE: u8 = 20;
+pub const NO_HANDSHAKE: u8 = 21;
 pub const OFF_FORMAT: u8 = 22;
 
+/// Codes of the writers; 0 is accepted.
+pub const KEY_NOT_WRITTEN: u8 = 40;
+pub const VALUE_REFUSED: u8 = 41;
+pub const TAG_REFUSED: u8 = 42;
+pub const PAYLOAD_TOO_LONG: u8 = 43;
+pub const NO_ROOM: u8 = 44;
+
 /// What is read; a refusal is of no kind.
+pub const NO_KIND: u8 = 0;
 pub const MESSAGE: u8 = 1;
 pub const HANDSHAKE: u8 = 2;
 
@@ -29,8 +55,10 @@ pub const VERSIONS: u8 = 4;
 #[derive(Clone, Copy, Debug, Default, PartialEq, Eq)]
 pub struct Content {
     pub kind: u8,
+    /// Versions: the range.
     pub min: u32,
     pub max: u32,
+    /// Text and part: the bytes of the frame, counted from its first byte.
     pub start: usize,
     pub length: usize,
     pub integer: i64,
@@ -41,15 +69,20 @@ pub struct Content {
 #[derive(Clone, Copy, Debug, Default, PartialEq, Eq)]
 pub struct Answer {
     pub code: u8,
+    /// 0 for every refusal, code 22 too.
     pub kind: u8,
+    /// Also for code 22.
     pub key: u8,
+    /// 0 is none; also for code 22.
     pub tag: u32,
+    /// Of the fault: for code 2 in the header, for 5 to 9 from the payload's start.
     pub offset: usize,
+    /// The frame's bytes where it is accepted.
     pub consumed: usize,
     pub value: Content,
 }
 
-/// Where a payload's fault is: its code and offset, or 0 and the payload's length.
+/// Where a payload's fault is: its code, 5 to 9 or 11, and its offset; or 0 and the payload's length.
 #[repr(C)]
 #[derive(Clone, Copy, Debug, PartialEq, Eq)]
 pub struct WalkAnswer {

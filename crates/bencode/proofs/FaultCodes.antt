@@ -8,22 +8,22 @@ use lib.Dec.{eqb, leb, ltb}
 use lib.Signed.{mag}
 use lib.ListN.{length}
 use Rattle.bencode.specs.declared.numeral.Decimal.{Decimal}
-use Rattle.bencode.specs.declared.string.Text.{Text}
-use Rattle.bencode.specs.declared.integer.Number.{Number}
+use Rattle.bencode.specs.declared.strings.Text.{Text}
+use Rattle.bencode.specs.declared.integers.Number.{Number}
 use Rattle.bencode.specs.declared.fault.Walk.{Walk}
 use Rattle.bencode.specs.declared.profile.Profile.{Profile}
 use Rattle.bencode.specs.Bytes.{byteAt, part}
 use Rattle.bencode.specs.Numeral.{numeralAt}
 use Rattle.bencode.specs.Fault.{fault}
-use Rattle.bencode.specs.String.{stringAt, textEnd}
-use Rattle.bencode.specs.Integer.{signed, integerFrom, integerAt, numberEnd}
+use Rattle.bencode.specs.Strings.{stringAt, textEnd}
+use Rattle.bencode.specs.Integers.{signed, integerFrom, integerAt, numberEnd}
 use Rattle.bencode.specs.Loop.{Step, next, done, after, repeat}
 use Rattle.bencode.specs.Key.{isUsed, isAbove, orderFault, isFaultCode, keyFault}
 use Rattle.bencode.specs.Scalar.{scalarAt}
 use Rattle.bencode.specs.Walk.{onward, listStep, listFrom, entryStep, dictionaryStep, dictionaryFrom, valueAt, whole, payloadAt}
 use Rattle.bencode.specs.Depth.{largestDepth}
 use Rattle.bencode.specs.Demands.{FaultsCoded}
-use Rattle.bencode.proofs.Order.{clash}
+use Rattle.bencode.proofs.sequences.Order.{clash}
 
 module _ (p : Profile) where
   -- a walk whose fault, if it is one, has a code of the profile

@@ -16,8 +16,8 @@ use Rattle.bencode.specs.Depth.{largestDepth}
 use Rattle.bencode.specs.Value.{Value, encode, WellFormed}
 use Rattle.bencode.specs.Bytes.{Begins}
 use Rattle.bencode.specs.Demands.{AcceptsExactly}
-use Rattle.bencode.proofs.Sound.{value-sound}
-use Rattle.bencode.proofs.Complete.{value-reads}
+use Rattle.bencode.proofs.values.Sound.{value-sound}
+use Rattle.bencode.proofs.values.Complete.{value-reads}
 
 -- a list as long as its first part is that part
 whole-list : (s x rest : List ℕ) → s ≡ x ++ rest → length s ≡ length x → s ≡ x

@@ -9,7 +9,7 @@ use native.Mathlib.Omega.{arith}
 use Rattle.bencode.specs.Bytes.{same, less}
 use Rattle.bencode.specs.Key.{isUsed, isAbove, keyFault}
 use Rattle.bencode.specs.Demands.{KeysOnce, KeysRise}
-use Rattle.bencode.proofs.Order.{clash, same-eq, above-unused, used-head, used-tail}
+use Rattle.bencode.proofs.sequences.Order.{clash, same-eq, above-unused, used-head, used-tail}
 
 used-member : (key : List ℕ) (keys : List (List ℕ)) → isUsed key keys ≡ true → List·Memᴰ key keys
 unfolding isUsed

@@ -9,27 +9,27 @@ use lib.IntN.{ℤ}
 use lib.ListN.{length}
 use Rattle.bencode.specs.declared.entry.Entry.{Entry}
 use Rattle.bencode.specs.declared.fault.Fault.{Fault}
-use Rattle.bencode.specs.declared.integer.Number.{Number}
-use Rattle.bencode.specs.declared.string.Text.{Text}
+use Rattle.bencode.specs.declared.integers.Number.{Number}
+use Rattle.bencode.specs.declared.strings.Text.{Text}
 use Rattle.bencode.specs.Bytes.{byteAt, part, same, Begins}
 use Rattle.bencode.specs.Fault.{fault}
-use Rattle.bencode.specs.String.{stringAt}
-use Rattle.bencode.specs.Integer.{InRange, integerAt}
+use Rattle.bencode.specs.Strings.{stringAt}
+use Rattle.bencode.specs.Integers.{InRange, integerAt}
 use Rattle.bencode.specs.Walk.{listFrom, dictionaryFrom, valueAt}
 use Rattle.bencode.specs.Skip.{skipValue, skipRest}
 use Rattle.bencode.specs.Entry.{entryAt}
 use Rattle.bencode.specs.Value.{Value, integer, string, list, dictionary, Values, no-entry, entry, Entries, encodeString, encode, encodeAll, encodeEntries, found, missing, lookup, lookupAt}
 use Rattle.bencode.specs.Demands.{ReadsInteger, ReadsString, SkipsValue, SkipsItems, SkipsEntries, FindsItem, EndsItems, Located, FindsEntry}
-use Rattle.bencode.proofs.WalkLaws.{value-ends}
-use Rattle.bencode.proofs.SkipLaws.{value-skips, list-skips, dictionary-skips}
-use Rattle.bencode.proofs.EntryLaws.{find-none, find-here, find-more}
-use Rattle.bencode.proofs.ItemLaws.{item-last, item-value}
-use Rattle.bencode.proofs.BeginsLaws.{begins-left, begins-right, begins-head}
-use Rattle.bencode.proofs.Encodings.{entries-text}
-use Rattle.bencode.proofs.FirstBytes.{FirstByte, first-byte, no-end, no-string}
-use Rattle.bencode.proofs.IntegerLaws.{integer-other}
-use Rattle.bencode.proofs.ScalarReads.{string-reads, integer-reads}
-use Rattle.bencode.proofs.Complete.{value-no-e, value-reads, list-reads, dictionary-reads}
+use Rattle.bencode.proofs.walking.WalkLaws.{value-ends}
+use Rattle.bencode.proofs.lookup.SkipLaws.{value-skips, list-skips, dictionary-skips}
+use Rattle.bencode.proofs.lookup.EntryLaws.{find-none, find-here, find-more}
+use Rattle.bencode.proofs.lookup.ItemLaws.{item-last, item-value}
+use Rattle.bencode.proofs.sequences.BeginsLaws.{begins-left, begins-right, begins-head}
+use Rattle.bencode.proofs.values.Encodings.{entries-text}
+use Rattle.bencode.proofs.walking.FirstBytes.{FirstByte, first-byte, no-end, no-string}
+use Rattle.bencode.proofs.scalars.IntegerLaws.{integer-other}
+use Rattle.bencode.proofs.values.ScalarReads.{string-reads, integer-reads}
+use Rattle.bencode.proofs.values.Complete.{value-no-e, value-reads, list-reads, dictionary-reads}
 
 -- the first byte of a value, with nothing after it
 pub starts : (v : Value) (s : List ℕ) (at end : ℕ) → Begins s at (encode v) end → FirstByte v (byteAt s at)

@@ -1,4 +1,4 @@
--- What is proved of payloads as a whole. Each statement is a type; its proof stands in proofs/ under the same name in lower case.
+-- Statements of payloads as a whole. Each is a type; its proof stands in proofs/ under the same name in lower case.
 -- Assumes nothing.
 use Prim.Native.Nat.{ℕ, _+_, _-_}
 use mathlib.Core.Path.{_≡_}
@@ -10,14 +10,14 @@ use Rattle.bencode.specs.declared.entry.Entry.{Entry}
 use Rattle.bencode.specs.declared.fault.Fault.{Fault}
 use Rattle.bencode.specs.declared.fault.Walk.{Walk}
 use Rattle.bencode.specs.declared.field.Field.{Field}
-use Rattle.bencode.specs.declared.integer.Number.{Number}
+use Rattle.bencode.specs.declared.integers.Number.{Number}
 use Rattle.bencode.specs.declared.item.Item.{Item}
 use Rattle.bencode.specs.declared.profile.Profile.{Profile}
-use Rattle.bencode.specs.declared.string.Text.{Text}
+use Rattle.bencode.specs.declared.strings.Text.{Text}
 use Rattle.bencode.specs.Bytes.{letterE, byteAt, part, less, Begins}
 use Rattle.bencode.specs.Depth.{largestDepth}
-use Rattle.bencode.specs.String.{stringAt}
-use Rattle.bencode.specs.Integer.{integerAt}
+use Rattle.bencode.specs.Strings.{stringAt}
+use Rattle.bencode.specs.Integers.{integerAt}
 use Rattle.bencode.specs.Key.{keyFault, isFaultCode}
 use Rattle.bencode.specs.Walk.{payloadAt}
 use Rattle.bencode.specs.Skip.{skipValue, skipRest}

@@ -1,4 +1,5 @@
--- How deep lists and dictionaries may stand in each other (document 01, 'The frame': at most 16, the outermost counts as 1).
+-- To be believed. How deep lists and dictionaries may stand in each other (document 01, 'The frame': at most 16, the outermost
+-- counts as 1).
 -- Assumes nothing.
 use Prim.Native.Nat.{ℕ, _+_, _-_}
 use mathlib.Core.Bool.{cond}

@@ -1,13 +1,13 @@
--- The value of a key in a dictionary that has been walked.
+-- Pinned by `FindsEntry`. The value of a key in a dictionary that has been walked.
 -- Assumes nothing.
 use Prim.Native.Nat.{ℕ}
 use mathlib.Core.Bool.{cond}
 use mathlib.Core.List.{List}
 use Rattle.bencode.specs.declared.entry.Entry.{Entry}
-use Rattle.bencode.specs.declared.string.Text.{Text}
+use Rattle.bencode.specs.declared.strings.Text.{Text}
 use Rattle.bencode.specs.Bytes.{part, same}
 use Rattle.bencode.specs.Loop.{Step, next, done, repeatFrom}
-use Rattle.bencode.specs.String.{stringAt}
+use Rattle.bencode.specs.Strings.{stringAt}
 use Rattle.bencode.specs.Skip.{skipValue}
 
 -- the entry with a key text: the one that is looked for, or another

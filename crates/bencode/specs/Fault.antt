@@ -1,4 +1,5 @@
--- Faults of a payload (document 01, 'What the reader says', numbers 5 to 9; 11 is the strict profile's).
+-- To be believed. Faults of a payload, and their codes and offsets (document 01, 'What the reader says', 5 to 9; 11 is the
+-- strict profile's).
 -- Assumes nothing.
 use Prim.Native.Nat.{ℕ}
 use Rattle.bencode.specs.declared.fault.Fault.{Fault}
@@ -13,7 +14,7 @@ abbrev pub codeOf : Walk → ℕ
 codeOf (Walk.End end) = 0
 codeOf (Walk.Fault f) = f .code
 
--- the offset of a walk: its fault's, or the one after the value
+-- the offset of a walk: its fault's, and 0 where it is accepted
 abbrev pub offsetOf : Walk → ℕ
-offsetOf (Walk.End end) = end
+offsetOf (Walk.End end) = 0
 offsetOf (Walk.Fault f) = f .offset

@@ -1,4 +1,4 @@
--- The value of a key in a dictionary that has been walked, by its kind and with its place.
+-- Pinned by `FindsField`. The value of a key in a dictionary that has been walked, by its kind and with its place.
 -- Assumes nothing.
 use Prim.Native.Nat.{ℕ, _+_}
 use mathlib.Core.Bool.{cond}
@@ -7,11 +7,11 @@ use lib.Dec.{eqb}
 use lib.IntN.{ℤ}
 use Rattle.bencode.specs.declared.entry.Entry.{Entry}
 use Rattle.bencode.specs.declared.field.Field.{Field}
-use Rattle.bencode.specs.declared.integer.Number.{Number}
-use Rattle.bencode.specs.declared.string.Text.{Text}
+use Rattle.bencode.specs.declared.integers.Number.{Number}
+use Rattle.bencode.specs.declared.strings.Text.{Text}
 use Rattle.bencode.specs.Bytes.{letterD, letterI, letterL, byteAt}
-use Rattle.bencode.specs.String.{stringAt}
-use Rattle.bencode.specs.Integer.{integerAt}
+use Rattle.bencode.specs.Strings.{stringAt}
+use Rattle.bencode.specs.Integers.{integerAt}
 use Rattle.bencode.specs.Entry.{entryAt}
 
 abbrev pub numberField : Number → Field

@@ -1,4 +1,4 @@
--- The items of a list that has been walked.
+-- Pinned by `FindsItem` and `EndsItems`. The items of a list that has been walked.
 -- Assumes nothing.
 use Prim.Native.Nat.{ℕ}
 use mathlib.Core.Bool.{cond}

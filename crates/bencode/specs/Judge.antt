@@ -1,4 +1,5 @@
--- How a payload of at most so many bytes is judged: by its length, then by the walk, then by what its value means.
+-- To be believed, for requests 06, 10 and 14. How a payload of at most so many bytes is judged: by its length, then by the walk,
+-- then by what its value means.
 -- Assumes nothing.
 use Prim.Native.Nat.{ℕ, _≤_, _<_}
 use mathlib.Core.Path.{_≡_}
@@ -31,5 +32,5 @@ module _ {A : Type 0} (p : Profile) (longest tooLong : ℕ) (refused : ℕ → �
   OneAnswer = (s : List ℕ) → (a : A) × Judged s a × ((b : A) → Judged s b → b ≡ a)
 
   -- the answer to the encoding of a value, if it is not too long, is what the value means
-  abbrev pub AnswersMeaning : Type 0
-  AnswersMeaning = (s : List ℕ) (v : Value) → length s ≤ longest → Means p s v → Judged s (meaning v)
+  abbrev pub JudgesMeaning : Type 0
+  JudgesMeaning = (s : List ℕ) (v : Value) → length s ≤ longest → Means p s v → Judged s (meaning v)

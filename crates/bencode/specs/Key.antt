@@ -1,4 +1,5 @@
--- The key rule: which keys may follow which in a dictionary (document 01, 'The frame': in any order, and no key twice).
+-- Pinned by `KeysOnce` and `KeysRise`. The key rule: which keys may follow which in a dictionary (document 01, 'The frame': in
+-- any order, and no key twice).
 -- Assumes nothing.
 use Prim.Native.Nat.{ℕ}
 use mathlib.Core.Bool.{Bool, true, false, cond, _&&_, _||_}

@@ -1,4 +1,5 @@
--- How the key rule is checked from the payload, with no list of the earlier keys. Only private functions cite this.
+-- Pinned by the promise of `check_key`; nothing public cites it. How the key rule is checked from the payload, with no list of
+-- the earlier keys.
 -- Assumes nothing.
 use Prim.Native.Nat.{ℕ}
 use mathlib.Core.Bool.{Bool, true, false, cond}
@@ -7,10 +8,10 @@ use lib.Dec.{leb, ltb}
 use Rattle.bencode.specs.declared.entry.Entry.{Entry}
 use Rattle.bencode.specs.declared.key.Seen.{Seen}
 use Rattle.bencode.specs.declared.key.KeyCheck.{KeyCheck}
-use Rattle.bencode.specs.declared.string.Text.{Text}
+use Rattle.bencode.specs.declared.strings.Text.{Text}
 use Rattle.bencode.specs.declared.profile.Profile.{Profile}
 use Rattle.bencode.specs.Bytes.{part, less}
-use Rattle.bencode.specs.String.{stringAt}
+use Rattle.bencode.specs.Strings.{stringAt}
 use Rattle.bencode.specs.Entry.{entryAt}
 
 -- was a key found before an offset

@@ -3,8 +3,8 @@ pub mod Bytes
 pub mod Loop
 pub mod Fault
 pub mod Numeral
-pub mod String
-pub mod Integer
+pub mod Strings
+pub mod Integers
 pub mod Scalar
 pub mod Depth
 pub mod Key

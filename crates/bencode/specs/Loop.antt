@@ -1,5 +1,5 @@
--- A loop over a payload, as a function: steps from an offset on. In every loop here each step ends further right, so the
--- number of steps below is enough (proofs/LoopLaws: `repeat-step` takes one step off any loop, with no word of the number).
+-- Pinned by `Unrolls`: a loop is one step, and then the loop from where it ended. A loop over a payload, as a function; where
+-- each step ends further right, the number of steps below is enough.
 -- Assumes nothing.
 use Prim.Native.Nat.{ℕ, zero, suc, _+_, _-_, _<_, _≤_}
 use mathlib.Core.Path.{_≡_}

@@ -1,4 +1,5 @@
--- Decimal numerals, read and written (document 01, 'The frame': no leading zero).
+-- `decimal` is to be believed; reading is pinned by `ReadsInteger` and `ReadsString`. Decimal numerals (document 01, 'The
+-- frame': no leading zero).
 -- Assumes nothing.
 use Prim.Native.Nat.{ℕ, zero, suc, _+_, _-_, _*_, _/_, _%_, _^_, min}
 use mathlib.Core.Bool.{Bool, cond, _&&_}

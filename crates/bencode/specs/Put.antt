@@ -1,4 +1,4 @@
--- Bytes stored in a lent buffer.
+-- To be believed. Bytes stored in a lent buffer.
 -- Assumes nothing.
 use Prim.Native.Nat.{ℕ, _+_}
 use mathlib.Core.Path.{_≡_}

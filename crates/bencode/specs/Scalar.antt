@@ -1,4 +1,4 @@
--- Values that hold no other: strings and integers.
+-- Pinned by `AcceptsExactly`. Values that hold no other: strings and integers.
 -- Assumes nothing.
 use Prim.Native.Nat.{ℕ}
 use mathlib.Core.Bool.{cond}
@@ -6,8 +6,8 @@ use mathlib.Core.List.{List}
 use lib.Dec.{eqb}
 use Rattle.bencode.specs.declared.fault.Walk.{Walk}
 use Rattle.bencode.specs.Bytes.{letterI, byteAt}
-use Rattle.bencode.specs.String.{stringAt, textEnd}
-use Rattle.bencode.specs.Integer.{integerAt, numberEnd}
+use Rattle.bencode.specs.Strings.{stringAt, textEnd}
+use Rattle.bencode.specs.Integers.{integerAt, numberEnd}
 
 -- the offset after the string or the integer at an offset
 unfoldable pub scalarAt : List ℕ → ℕ → Walk

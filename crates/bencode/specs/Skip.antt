@@ -1,4 +1,5 @@
--- Where a value ends that has been walked before: keys and depth are not checked again, nesting is only counted.
+-- Pinned by `SkipsValue`. Where a value ends that has been walked before: keys and depth are not checked again, nesting is only
+-- counted.
 -- Assumes nothing.
 use Prim.Native.Nat.{ℕ, zero, suc, _+_, _-_}
 use mathlib.Core.Bool.{Bool, cond, _||_}

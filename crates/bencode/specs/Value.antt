@@ -1,4 +1,5 @@
--- The grammar: bencoded values, how each is written, and which are well formed (BEP 3, and document 01, 'The frame').
+-- To be believed. The grammar: bencoded values, how each is written, and which are well formed (BEP 3, and document 01, 'The
+-- frame').
 -- Assumes nothing.
 use Prim.Native.Nat.{ℕ, zero, suc, _+_}
 use mathlib.Core.Path.{_≡_}
@@ -10,7 +11,7 @@ use Rattle.bencode.specs.declared.entry.Entry.{Entry}
 use Rattle.bencode.specs.declared.profile.Profile.{Profile}
 use Rattle.bencode.specs.Bytes.{letterD, letterE, letterI, letterL, colon, minus, same}
 use Rattle.bencode.specs.Numeral.{decimal}
-use Rattle.bencode.specs.Integer.{InRange}
+use Rattle.bencode.specs.Integers.{InRange}
 use Rattle.bencode.specs.Key.{keyFault}
 
 mutual

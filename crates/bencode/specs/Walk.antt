@@ -1,17 +1,18 @@
--- What walking a payload finds: the offset after a value, or the first fault from left to right (document 01, 'What the reader says').
+-- What is accepted is pinned by `AcceptsExactly`; codes and offsets are to be believed. What walking a payload finds: the offset
+-- after a value, or the first fault from left to right (document 01, 'What the reader says').
 -- Assumes nothing.
 use Prim.Native.Nat.{ℕ, zero, suc, _+_}
 use mathlib.Core.Bool.{cond}
 use mathlib.Core.List.{List, [], _∷_}
 use lib.Dec.{eqb}
 use lib.ListN.{length}
-use Rattle.bencode.specs.declared.string.Text.{Text}
+use Rattle.bencode.specs.declared.strings.Text.{Text}
 use Rattle.bencode.specs.declared.fault.Walk.{Walk}
 use Rattle.bencode.specs.declared.profile.Profile.{Profile}
 use Rattle.bencode.specs.Bytes.{letterD, letterE, letterL, byteAt, part}
 use Rattle.bencode.specs.Loop.{Step, next, done, repeatFrom, itemStep}
-use Rattle.bencode.specs.Fault.{fault}
-use Rattle.bencode.specs.String.{stringAt}
+use Rattle.bencode.specs.Fault.{fault, codeOf, offsetOf}
+use Rattle.bencode.specs.Strings.{stringAt}
 use Rattle.bencode.specs.Scalar.{scalarAt}
 use Rattle.bencode.specs.Depth.{largestDepth}
 use Rattle.bencode.specs.Key.{keyFault}
@@ -77,3 +78,10 @@ whole s (Walk.Fault f) = Walk.Fault f
 -- what walking a payload finds
 unfoldable pub payloadAt : Profile → List ℕ → Walk
 payloadAt p s = whole s (valueAt p largestDepth s 0)
+
+-- the code of a payload, and the offset of its fault, as document 01 numbers them
+unfoldable pub payloadCode : Profile → List ℕ → ℕ
+payloadCode p s = codeOf (payloadAt p s)
+
+unfoldable pub payloadOffset : Profile → List ℕ → ℕ
+payloadOffset p s = offsetOf (payloadAt p s)

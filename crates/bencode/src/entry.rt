@@ -3,8 +3,8 @@ ghost use mathlib.Core.Path.{_≡_};
 ghost use Rattle.bencode.specs.Entry.{entryAt};
 use super::bytes::same;
 use super::skip::skip_value;
-use super::string::Text;
-use super::string::string;
+use super::strings::Text;
+use super::strings::string;
 
 // The offset of the value of a key, or that there is no such key.
 pub enum Entry {

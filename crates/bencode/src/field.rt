@@ -1,15 +1,15 @@
 // The value of a key in a dictionary that has been walked, by its kind and with its place.
 ghost use mathlib.Core.Path.{_≡_};
-ghost use Rattle.bencode.specs.String.{stringAt};
-ghost use Rattle.bencode.specs.Integer.{integerAt};
+ghost use Rattle.bencode.specs.Strings.{stringAt};
+ghost use Rattle.bencode.specs.Integers.{integerAt};
 ghost use Rattle.bencode.specs.Field.{numberField, textField, fieldAt, fieldOf};
 use super::bytes::byte_at;
 use super::entry::Entry;
 use super::entry::find;
-use super::integer::Number;
-use super::integer::integer;
-use super::string::Text;
-use super::string::string;
+use super::integers::Number;
+use super::integers::integer;
+use super::strings::Text;
+use super::strings::string;
 
 // A value by its kind: an integer and the offset after it, the start and the end of a string's text, or the offset of a
 // list's first item or of a dictionary's first entry.

@@ -9,8 +9,8 @@ use super::entry::Entry;
 use super::entry::find;
 use super::fault::Fault;
 use super::profile::Profile;
-use super::string::Text;
-use super::string::string;
+use super::strings::Text;
+use super::strings::string;
 
 // What a walk keeps of a dictionary's earlier keys: the offset of the first entry, and of the one with the greatest key.
 pub struct Seen {

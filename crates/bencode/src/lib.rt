@@ -1,20 +1,44 @@
 // Bencoded payloads: where a value ends or which byte is at fault, how to look into a payload that is sound, and how to
-// write integers and strings.
-// Nothing here knows of frames, and no length is too long.
-pub mod bytes;
+// write integers and strings. Nothing here knows of frames.
+// Every function here takes any bytes and any offset, of any length: what a payload that was not walked says is still
+// defined, and what has no room is not stored.
+mod bytes;
 mod decimal;
-pub mod depth;
-pub mod entry;
-pub mod fault;
-pub mod field;
-pub mod integer;
-pub mod item;
+mod depth;
+mod entry;
+mod fault;
+mod field;
+mod integers;
+mod item;
 mod key;
 mod numeral;
-pub mod profile;
-pub mod put;
+mod profile;
+mod put;
 mod scalar;
-pub mod skip;
+mod skip;
 mod store;
-pub mod string;
-pub mod walk;
+mod strings;
+mod walk;
+
+pub use bytes::byte_at;
+pub use bytes::same;
+pub use fault::Fault;
+pub use fault::Walk;
+pub use field::Field;
+pub use field::field_of;
+pub use integers::Number;
+pub use integers::integer;
+pub use integers::magnitude;
+pub use item::Item;
+pub use item::item_at;
+pub use profile::Profile;
+pub use put::integer_length;
+pub use put::put_bytes;
+pub use put::put_decimal;
+pub use put::put_integer;
+pub use put::put_string;
+pub use put::string_head;
+pub use skip::skip_rest;
+pub use strings::Text;
+pub use strings::string;
+pub use walk::payload;

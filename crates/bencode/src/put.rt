@@ -8,7 +8,7 @@ ghost use Rattle.bencode.specs.Value.{integer, sign, encodeString, encod
 ghost use Rattle.bencode.specs.Put.{Wrote, Put};
 use super::decimal::decimal_length;
 use super::decimal::store_decimal;
-use super::integer::magnitude;
+use super::integers::magnitude;
 use super::store::store_byte;
 use super::store::store_bytes;
 

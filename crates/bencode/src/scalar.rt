@@ -3,8 +3,8 @@ ghost use mathlib.Core.Path.{_≡_};
 ghost use Rattle.bencode.specs.Scalar.{scalarAt};
 use super::bytes::byte_at;
 use super::fault::Walk;
-use super::integer::integer_end;
-use super::string::string_end;
+use super::integers::integer_end;
+use super::strings::string_end;
 
 // The offset after the string or the integer at an offset.
 pub fn scalar_end(s: &[u8], at: usize) -> Walk

@@ -2,7 +2,8 @@
 ghost use mathlib.Core.Path.{_≡_};
 ghost use Prim.Native.Nat.{_≤_};
 ghost use Rattle.bencode.specs.Depth.{largestDepth, levelsLeft};
-ghost use Rattle.bencode.specs.Walk.{valueAt, listAt, dictionaryAt, payloadAt};
+ghost use Rattle.bencode.specs.Fault.{codeOf, offsetOf};
+ghost use Rattle.bencode.specs.Walk.{valueAt, listAt, dictionaryAt, payloadAt, payloadCode, payloadOffset};
 use super::bytes::byte_at;
 use super::depth::Deeper;
 use super::depth::Depth;
@@ -13,8 +14,8 @@ use super::key::Seen;
 use super::key::check_key;
 use super::profile::Profile;
 use super::scalar::scalar_end;
-use super::string::Text;
-use super::string::string;
+use super::strings::Text;
+use super::strings::string;
 
 // The offset after the value at an offset, which stands at a depth.
 fn value(s: &[u8], at: usize, depth: Depth, profile: Profile) -> Walk
@@ -103,6 +104,7 @@ fn dictionary(s: &[u8], from: usize, depth: Depth, profile: Profile) -> Walk
 // Walks a payload, which is one value and nothing after it.
 pub fn payload(s: &[u8], profile: Profile) -> Walk
     ensures { λ r. ⌜ r ≡ payloadAt profile (now (s .entry)) ⌝ }
+    ensures { λ r. ⌜ (codeOf r ≡ payloadCode profile (now (s .entry))) × (offsetOf r ≡ payloadOffset profile (now (s .entry))) ⌝ }
 {
     match value(s, 0, Depth::outermost(), profile) {
         Walk::End(end) => {

@@ -6,18 +6,18 @@ use mathlib.Core.Path.{_≡_, refl, sym, ap, subst, _∙_}
 use mathlib.Core.List.{List}
 use native.Mathlib.Omega.{arith}
 use lib.ListN.{length}
-use Rattle.ipc.specs.declared.write.Written.{Written}
+use Rattle.ipc.specs.declared.writer.Written.{Written}
 use Rattle.ipc.specs.Keys.{Listed, isWritten}
-use Rattle.ipc.specs.Write.{bufferAfter, frameOf, messageFault, writeAnswer, Outcome}
-use Rattle.ipc.proofs.KeyLaws.{listed-past}
+use Rattle.ipc.specs.Writer.{bufferAfter, frameOf, messageFault, writeAnswer, Leaves}
+use Rattle.ipc.proofs.listed.KeyLaws.{listed-past}
 use Rattle.c_api.specs.declared.offered.Offered.{Offered}
 use Rattle.c_api.specs.declared.written.WriteAnswer.{WriteAnswer}
 use Rattle.c_api.specs.Written.{writtenNumbers, Answered}
 use Rattle.c_api.specs.Offered.{unknownCode, offeredAnswer, offeredPayload}
 
 -- what a writer did, by numbers
-pub outcome-numbers : {answer w : Written} {payload before after : List ℕ} {r : WriteAnswer} → Outcome answer payload before w after → r ≡ writtenNumbers w → Answered answer payload before r after
-outcome-numbers {payload = payload} {before = before} o e = record {
+pub leaves-numbers : {answer w : Written} {payload before after : List ℕ} {r : WriteAnswer} → Leaves answer payload before w after → r ≡ writtenNumbers w → Answered answer payload before r after
+leaves-numbers {payload = payload} {before = before} o e = record {
   answered = e ∙ ap writtenNumbers (o .answered);
   buffer = o .buffer ∙ ap (λ (x : Written). bufferAfter x (frameOf payload) before) (o .answered);
 }
@@ -43,7 +43,7 @@ key-refused n h (Offered.Given given) s tag room = rw (unwritten n h) refl
 key-refused n h Offered.Unknown s tag room = rw (unwritten n h) refl
 
 -- what is done with a value is done with what is equal to it
-pub outcome-as : (key tag : ℕ) (s before after : List ℕ) (w : Written) (other : Offered) {value : Offered} → value ≡ other
-    → Outcome (offeredAnswer key other s tag (length before)) (offeredPayload key other s tag) before w after
-    → Outcome (offeredAnswer key value s tag (length before)) (offeredPayload key value s tag) before w after
-outcome-as key tag s before after w other e o = subst (λ (x : Offered). Outcome (offeredAnswer key x s tag (length before)) (offeredPayload key x s tag) before w after) (sym e) o
+pub leaves-as : (key tag : ℕ) (s before after : List ℕ) (w : Written) (other : Offered) {value : Offered} → value ≡ other
+    → Leaves (offeredAnswer key other s tag (length before)) (offeredPayload key other s tag) before w after
+    → Leaves (offeredAnswer key value s tag (length before)) (offeredPayload key value s tag) before w after
+leaves-as key tag s before after w other e o = subst (λ (x : Offered). Leaves (offeredAnswer key x s tag (length before)) (offeredPayload key x s tag) before w after) (sym e) o

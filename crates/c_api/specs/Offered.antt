@@ -1,14 +1,14 @@
--- A message handed in by numbers.
+-- To be believed. A message handed in by numbers.
 -- Assumes nothing.
 use Prim.Native.Nat.{ℕ}
 use mathlib.Core.Bool.{cond}
 use mathlib.Core.List.{List, []}
 use lib.Dec.{eqb}
 use lib.IntN.{ℤ}
-use Rattle.ipc.specs.declared.write.Given.{Given}
-use Rattle.ipc.specs.declared.write.Written.{Written}
+use Rattle.ipc.specs.declared.writer.Given.{Given}
+use Rattle.ipc.specs.declared.writer.Written.{Written}
 use Rattle.ipc.specs.Keys.{isWritten}
-use Rattle.ipc.specs.Write.{payloadOf, writeAnswer}
+use Rattle.ipc.specs.Writer.{payloadOf, writeAnswer}
 use Rattle.c_api.specs.declared.offered.Offered.{Offered}
 
 -- the value of a kind: 0 nothing, 1 an integer, 2 bytes that stand beside it

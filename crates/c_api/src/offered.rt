@@ -1,7 +1,7 @@
 // A value handed in by number.
 ghost use mathlib.Core.Path.{_≡_};
 ghost use Rattle.c_api.specs.Offered.{offered};
-use ipc::write::Given;
+use ipc::Given;
 
 // A value that the writer takes, or a number that is no kind of value.
 pub enum Offered {

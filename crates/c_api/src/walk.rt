@@ -2,8 +2,8 @@
 ghost use mathlib.Core.Path.{_≡_};
 ghost use Rattle.bencode.specs.Walk.{payloadAt};
 ghost use Rattle.c_api.specs.Walk.{profileOf, walkNumbers};
-use bencode::fault::Walk;
-use bencode::profile::Profile;
+use bencode::Profile;
+use bencode::Walk;
 
 // The fault's code and offset, or 0 and the payload's length.
 #[repr(C)]
@@ -39,5 +39,5 @@ fn walk_answer_of(walk: Walk) -> WalkAnswer
 pub extern "C" fn bogsilver_walk(s: &[u8], strict: bool) -> WalkAnswer
     ensures { λ r. ⌜ r ≡ walkNumbers (payloadAt (profileOf strict) (now (s .entry))) ⌝ }
 {
-    walk_answer_of(bencode::walk::payload(s, profile(strict)))
+    walk_answer_of(bencode::payload(s, profile(strict)))
 }

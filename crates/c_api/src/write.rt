@@ -1,15 +1,15 @@
 // The writer of messages.
 ghost use mathlib.Core.Path.{_≡_};
 ghost use lib.ListN.{length};
-ghost use Rattle.ipc.specs.Write.{Outcome};
+ghost use Rattle.ipc.specs.Writer.{Leaves};
 ghost use Rattle.c_api.specs.Written.{Answered};
 ghost use Rattle.c_api.specs.Offered.{offered, unknownCode, offeredAnswer, offeredPayload};
 use super::offered::Offered;
 use super::offered::offered_of;
 use super::written::WriteAnswer;
 use super::written::write_answer_of;
-use ipc::keys::is_written;
-use ipc::write::Written;
+use ipc::Written;
+use ipc::is_written;
 
 // The refusal of a value of no kind: a key that is not written comes first.
 fn unknown_code(key: u8) -> u8
@@ -23,10 +23,10 @@ fn unknown_code(key: u8) -> u8
 }
 
 fn write_offered(key: u8, value: Offered, s: &[u8], tag: u32, out: &mut [u8]) -> Written
-    ensures { λ r. ⌜ Outcome (offeredAnswer key value (now (s .entry)) tag (length (now (out .entry)))) (offeredPayload key value (now (s .entry)) tag) (now (out .entry)) r (now (out .exit)) ⌝ }
+    ensures { λ r. ⌜ Leaves (offeredAnswer key value (now (s .entry)) tag (length (now (out .entry)))) (offeredPayload key value (now (s .entry)) tag) (now (out .entry)) r (now (out .exit)) ⌝ }
 {
     match value {
-        Offered::Given(given) => ipc::write::write(key, given, s, tag, out),
+        Offered::Given(given) => ipc::write(key, given, s, tag, out),
         Offered::Unknown => Written::Refused(unknown_code(key)),
     }
 }

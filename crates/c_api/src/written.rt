@@ -1,7 +1,7 @@
 // A writer's answer as numbers.
 ghost use mathlib.Core.Path.{_≡_};
 ghost use Rattle.c_api.specs.Written.{writtenNumbers};
-use ipc::write::Written;
+use ipc::Written;
 
 // Code 0 and the frame's byte count, or the code of the refusal and 0.
 #[repr(C)]

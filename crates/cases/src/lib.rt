@@ -1,10 +1,8 @@
 // A stream of test cases on standard input, and numbers on standard output: what the conformance programs share.
 // A case is one byte of operation, a length (4 bytes, little-endian) and as many bytes of body.
 ghost use mathlib.Core.Path.{_≡_};
-ghost use Prim.Native.Nat.{_+_, _*_, _≤_, _<_};
-ghost use lib.ListN.{length};
+ghost use Prim.Native.Nat.{_+_, _*_, _<_};
 ghost use Rattle.io.specs.Counts.{Counts};
-ghost use Rattle.cases.specs.Case.{Fits};
 use libc::STDIN_FILENO;
 use libc::STDOUT_FILENO;
 
@@ -25,12 +23,6 @@ impl Taken {
 pub const ROOM: usize = 131072;
 
 pub const MOST: u32 = 4000000000;
-
-// The next case: its operation and the length of its body, or that there is none.
-pub enum Case {
-    Body { operation: u8, length: usize },
-    End,
-}
 
 fn wide(b: u8) -> usize
     ensures { λ r. ⌜ (r ≡ b) × (r < 256) ⌝ }
@@ -93,31 +85,6 @@ pub fn go_on(taken: Taken, answered: bool) -> bool {
         print(b"case fault\n");
     }
     answered
-}
-
-// Takes the next case as an enum; says so where one is cut.
-pub fn next_case(_head: &mut [u8; 5], body: &mut [u8]) -> Case
-    ensures { λ r. ⌜ Fits r (length (now (body .exit))) ⌝ }
-{
-    let taken = take_case(body);
-    if taken.operation == Taken::NONE {
-        go_on(taken, false);
-        return Case::End;
-    }
-    Case::Body {
-        operation: taken.operation,
-        length: taken.length,
-    }
-}
-
-// Says so where a case was not answered, and passes on whether it was.
-pub fn answered(yes: bool) -> bool
-    ensures { λ r. ⌜ r ≡ yes ⌝ }
-{
-    if !yes {
-        print(b"case fault\n");
-    }
-    yes
 }
 
 pub fn print(text: &[u8]) {

@@ -2,8 +2,8 @@
 -- Assumes nothing.
 use mathlib.Core.Path.{refl}
 use Rattle.bencode.specs.Numeral.{digits, numeralAt}
-use Rattle.bencode.specs.String.{stringAt}
-use Rattle.bencode.specs.Integer.{integerAt, integerFrom}
+use Rattle.bencode.specs.Strings.{stringAt}
+use Rattle.bencode.specs.Integers.{integerAt, integerFrom}
 use Rattle.bencode.specs.Bytes.{same, less}
 use Rattle.bencode.specs.Key.{isUsed, isAbove, keyFault}
 use Rattle.bencode.specs.Scalar.{scalarAt}
@@ -22,10 +22,10 @@ use Rattle.ipc.specs.Format.{idEnd, torrentEnd, itemEnd, itemsEnd, listPart, fo
 use Rattle.ipc.specs.Message.{tailAt, messageReading}
 use Rattle.ipc.specs.Versions.{rangeOf}
 use Rattle.ipc.specs.Handshake.{rangeAt, dictionaryVersions, handshakeReading}
-use Rattle.ipc.specs.Frame.{payloadReading, lengthReading, frameReading, readFrame}
-use Rattle.desk.specs.Machine.{listed, obey, idsFrom, idsIn, limitCommand, idsCommand, contentCommand, commandIn, obeying, takes, handed}
+use Rattle.ipc.specs.Reader.{payloadReading, lengthReading, frameReading, readFrame}
+use Rattle.desk.specs.Machine.{isAmong, obey, idsFrom, idsIn, limitCommand, idsCommand, contentCommand, commandIn, obeying, takes, handed}
 use Rattle.desk.specs.Tries.{runningOf, seen, before, tries, DaemonTried}
 
 pub daemon-tried : DaemonTried
-unfolding tries before seen runningOf handed takes obeying commandIn contentCommand idsCommand limitCommand idsIn idsFrom obey listed frameReading skipFrom itemAt readFrame lengthReading payloadReading ascii hexValue headerIn readHeader sized hexDigit tagOf torrentIdOf keys numberFrom keyNumber classOf entryAt fieldAt fieldOf idEnd torrentEnd itemEnd itemsEnd listPart formatted tailAt messageReading rangeOf rangeAt dictionaryVersions handshakeReading payloadAt valueAt scalarAt integerAt integerFrom numeralAt digits stringAt listFrom dictionaryFrom repeat keyFault isUsed isAbove same less
+unfolding tries before seen runningOf handed takes obeying commandIn contentCommand idsCommand limitCommand idsIn idsFrom obey isAmong frameReading skipFrom itemAt readFrame lengthReading payloadReading ascii hexValue headerIn readHeader sized hexDigit tagOf torrentIdOf keys numberFrom keyNumber classOf entryAt fieldAt fieldOf idEnd torrentEnd itemEnd itemsEnd listPart formatted tailAt messageReading rangeOf rangeAt dictionaryVersions handshakeReading payloadAt valueAt scalarAt integerAt integerFrom numeralAt digits stringAt listFrom dictionaryFrom repeat keyFault isUsed isAbove same less
 daemon-tried = refl

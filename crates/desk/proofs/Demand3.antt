@@ -11,28 +11,28 @@ use lib.Dec.{eqb}
 use lib.IntN.{ℤ}
 use lib.ListN.{length, take, drop}
 use borrow.Author.Tests.{ne-eqb, eqb-true}
-use Rattle.desk.specs.declared.calls.Call.{Call}
+use Rattle.desk.specs.declared.call.Call.{Call}
 use Rattle.desk.specs.declared.watch.Watch.{Watch}
 use Rattle.desk.specs.declared.record.Desk.{Desk}
 use Rattle.desk.specs.Watch.{mostWatched, has, marked, places}
-use Rattle.desk.specs.Record.{watched, openedWith, withDown, withUp, withRunning, withOverride}
+use Rattle.desk.specs.Record.{openedWith, withDown, withUp, withRunning, withOverride}
 use Rattle.desk.specs.Opening.{opening}
 use Rattle.desk.specs.Command.{Command, framesOf}
 use Rattle.desk.specs.Refusal.{stands}
 use Rattle.desk.specs.Plan.{Outcome, deferred, deskAfter, plan}
 use Rattle.desk.specs.Calls.{framed, outcome, returned, bufferAfter}
-use Rattle.desk.specs.Machine.{Machine, listed, handed, aloneAfter}
+use Rattle.desk.specs.Machine.{Machine, isAmong, handed, aloneAfter}
 use Rattle.desk.specs.Demands.{desk, standingAfter, Turn, World, after, turn, turns, atOpening, afterOpening, overridden, Demand3}
-use Rattle.desk.proofs.Cases.{by-cases, cond-cases}
-use Rattle.desk.proofs.Places.{take-places}
-use Rattle.desk.proofs.AcceptedOpening.{open-accepted}
-use Rattle.desk.proofs.ReadsCommands.{frames-handed}
-use Rattle.desk.proofs.RefusalLaws.{Accepted}
-use Rattle.desk.proofs.CallLaws.{Comes, outcome-cases}
-use Rattle.desk.proofs.Overrides.{Desired}
-use Rattle.desk.proofs.PlanLaws.{watched-id}
-use Rattle.desk.proofs.Steps.{due, outcome-step}
-use Rattle.desk.proofs.WatchLists.{id-not-zero}
+use Rattle.desk.proofs.numbers.Cases.{cond-cases}
+use Rattle.desk.proofs.watching.Places.{take-places}
+use Rattle.desk.proofs.openings.AcceptedOpening.{open-accepted}
+use Rattle.desk.proofs.machines.ReadsCommands.{frames-handed}
+use Rattle.desk.proofs.acting.RefusalLaws.{Accepted}
+use Rattle.desk.proofs.acting.CallLaws.{outcome-cases}
+use Rattle.desk.proofs.machines.Overrides.{Desired}
+use Rattle.desk.proofs.acting.PlanLaws.{watched-id}
+use Rattle.desk.proofs.machines.Steps.{due, outcome-step}
+use Rattle.desk.proofs.watching.WatchLists.{id-not-zero}
 
 -- ---- the override that stands is the record's
 abbrev standing : Desk → List ℕ
@@ -135,8 +135,8 @@ none-stands : (b : Bool) (x : ℕ) (m o : Machine) → [] ≡ cond b (x ∷ []) 
 none-stands true x m o e = absurd (nil≢cons e)
 none-stands false x m o e = refl
 
-one-stands : (b : Bool) (x y : ℕ) (m : Machine) (o : ℕ → Machine) → listed y (cond b (x ∷ []) []) ≡ true → cond b (o x) m ≡ o y
-unfolding listed
+one-stands : (b : Bool) (x y : ℕ) (m : Machine) (o : ℕ → Machine) → isAmong y (cond b (x ∷ []) []) ≡ true → cond b (o x) m ≡ o y
+unfolding isAmong
 one-stands true x y m o e = ap o (eqb-true x y (sym (or-false (eqb x y)) ∙ e))
 one-stands false x y m o e = absurd (false≢true e)
 
@@ -146,5 +146,5 @@ demand-3 watch down up others calls h =
     let i = turns-keep watch others calls (afterOpening desk watch down up others) (opening-invariant watch others down up h) in
     let d = w .record-now in (
       λ e. i .right ∙ ap some (none-stands (stands d) (d .«override_id») (w .alone) (overridden watch others (d .«override_id»)) (sym e ∙ i .follows)),
-      λ x e. i .right ∙ ap some (one-stands (stands d) (d .«override_id») x (w .alone) (overridden watch others) (ap (listed x) (sym (i .follows)) ∙ e)),
+      λ x e. i .right ∙ ap some (one-stands (stands d) (d .«override_id») x (w .alone) (overridden watch others) (ap (isAmong x) (sym (i .follows)) ∙ e)),
     )

@@ -12,14 +12,14 @@ use Rattle.desk.specs.declared.record.Desk.{Desk}
 use Rattle.desk.specs.Watch.{has, place}
 use Rattle.desk.specs.Record.{withDown, withUp, withOverride, withRunning}
 use Rattle.desk.specs.Command.{Command}
-use Rattle.desk.specs.declared.calls.Call.{Call}
+use Rattle.desk.specs.declared.call.Call.{Call}
 use Rattle.desk.specs.Plan.{Outcome, deferred, deskAfter, plan}
 use Rattle.desk.specs.Calls.{framed, outcome}
 use Rattle.desk.specs.Demands.{ListFixed}
-use Rattle.desk.proofs.Cases.{by-cases, cond-cases}
-use Rattle.desk.proofs.WatchLists.{entry}
-use Rattle.desk.proofs.RefusalLaws.{Accepted}
-use Rattle.desk.proofs.CallLaws.{Comes, outcome-cases}
+use Rattle.desk.proofs.numbers.Cases.{by-cases, cond-cases}
+use Rattle.desk.proofs.watching.WatchLists.{entry}
+use Rattle.desk.proofs.acting.RefusalLaws.{Accepted}
+use Rattle.desk.proofs.acting.CallLaws.{outcome-cases}
 
 abbrev ids : List Watch → List ℕ
 ids ws = map (λ w. w .id) ws

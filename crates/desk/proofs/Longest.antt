@@ -6,34 +6,33 @@ use mathlib.Core.Bool.{true, false, not}
 use mathlib.Core.List.{List, [], _∷_, flatten}
 use native.Mathlib.Omega.{arith}
 use lib.Dec.{eqb}
-use lib.IntN.{ℤ}
-use lib.ListN.{length, length-append}
+use lib.ListN.{length}
 use Rattle.bencode.specs.Numeral.{decimal, decimalBefore}
 use Rattle.bencode.specs.Value.{encode}
 use Rattle.bencode.specs.Ascii.{ascii}
 use Rattle.ipc.specs.Hex.{hexHeader, hexIn}
 use Rattle.ipc.specs.Keys.{keyText, classOf, listed}
-use Rattle.ipc.specs.Write.{encodeGiven, encodeTag, payloadOf, frameOf}
+use Rattle.ipc.specs.Writer.{encodeGiven, encodeTag, payloadOf, frameOf}
 use Rattle.desk.specs.declared.record.Desk.{Desk}
 use Rattle.desk.specs.declared.watch.Watch.{Watch}
 use Rattle.desk.specs.Limit.{isLimit, largestLimit}
-use Rattle.desk.specs.Watch.{isId, has, fault, places, unused, filtered}
+use Rattle.desk.specs.Watch.{isId, has, listFault, places, unused, filtered}
 use Rattle.desk.specs.Record.{watched, limitsSound, listSound, sound, openedWith, withOverride}
 use Rattle.desk.specs.Opening.{openCode, opening}
-use Rattle.desk.specs.Command.{Command, downlimitKey, startKey, stopKey, uplimitKey, values, idList, messageFrame, commandFrame, framesOf, listing, longest}
-use Rattle.desk.specs.declared.calls.Call.{Call}
+use Rattle.desk.specs.Command.{Command, values, idList, messageFrame, commandFrame, framesOf, listing, longestFrames}
+use Rattle.desk.specs.declared.call.Call.{Call}
 use Rattle.desk.specs.Plan.{Outcome, deferred, deskAfter, raiseCommands, clearCommands, commandsOf, plan}
 use Rattle.desk.specs.Calls.{accepted, framed, outcome}
 use Rattle.desk.specs.Demands.{NoLonger, LongestReached}
-use Rattle.desk.proofs.Cases.{cond-cases}
-use Rattle.desk.proofs.RefusalLaws.{Accepted, fault-none}
-use Rattle.desk.proofs.CallLaws.{Comes, outcome-sends, delivered-whole, outcome-cases}
-use Rattle.desk.proofs.PlanLaws.{commands-length}
-use Rattle.desk.proofs.AcceptedOpening.{opened-sound}
+use Rattle.desk.proofs.numbers.Cases.{cond-cases}
+use Rattle.desk.proofs.acting.RefusalLaws.{Accepted, fault-none}
+use Rattle.desk.proofs.acting.CallLaws.{outcome-sends, delivered-whole, outcome-cases}
+use Rattle.desk.proofs.acting.PlanLaws.{commands-length}
+use Rattle.desk.proofs.openings.AcceptedOpening.{opened-sound}
 
 -- ---- every call
 abbrev Short : Outcome (List Command) → Type 0
-Short o = length (framesOf (o .sent)) ≤ longest
+Short o = length (framesOf (o .sent)) ≤ longestFrames
 
 pub no-longer : NoLonger
 unfolding plan framed framesOf
@@ -62,7 +61,7 @@ abbrev raised : Desk
 raised = withOverride chosen first
 
 records-opened : opening 32 records largestLimit largestLimit .code ≡ 0
-unfolding records countdown opening openCode isLimit fault isId has
+unfolding records countdown opening openCode isLimit listFault isId has
 records-opened = refl
 
 first-sound : sound first ≡ true
@@ -70,31 +69,31 @@ unfolding records countdown
 first-sound = opened-sound records largestLimit largestLimit records-opened
 
 chosen-watched : (has chosen (watched first) ≡ true) × (first .«override_id» ≡ 0)
-unfolding records countdown opening openCode openedWith places isLimit fault isId has
+unfolding records countdown opening openCode openedWith places isLimit listFault isId has
 chosen-watched = (refl, refl)
 
 raised-sound : sound raised ≡ true
-unfolding records countdown opening openCode openedWith withOverride places sound limitsSound listSound isLimit fault isId has unused
+unfolding records countdown opening openCode openedWith withOverride places sound limitsSound listSound isLimit listFault isId has unused
 raised-sound = refl
 
-raised-clear : length (framesOf (clearCommands raised)) ≡ longest
-unfolding records countdown opening openCode openedWith withOverride places isLimit fault isId has clearCommands filtered listing framesOf commandFrame messageFrame frameOf payloadOf flatten hexHeader hexIn keyText classOf listed ascii encodeGiven encodeTag idList values encode decimal decimalBefore
+raised-clear : length (framesOf (clearCommands raised)) ≡ longestFrames
+unfolding records countdown opening openCode openedWith withOverride places isLimit listFault isId has clearCommands filtered listing framesOf commandFrame messageFrame frameOf payloadOf flatten hexHeader hexIn keyText classOf listed ascii encodeGiven encodeTag idList values encode decimal decimalBefore
 raised-clear = refl
 
 -- an accepted call that has room for the longest
-whole-outcome : (c : Call) (room : ℕ) (d : Desk) → Accepted c d → deferred c d ≡ false → longest ≤ room → outcome c room d ≡ accepted (deskAfter c d) (framesOf (commandsOf c d))
+whole-outcome : (c : Call) (room : ℕ) (d : Desk) → Accepted c d → deferred c d ≡ false → longestFrames ≤ room → outcome c room d ≡ accepted (deskAfter c d) (framesOf (commandsOf c d))
 whole-outcome c room d ok h fits =
     outcome-sends c room d (fault-none c d ok) h
     ∙ delivered-whole room d (deskAfter c d) (framesOf (commandsOf c d)) (omega (arith, fits, commands-length c d ok))
 
-raise-accepted : (room : ℕ) → longest ≤ room → outcome (Call.Raise chosen) room first ≡ accepted raised (framesOf (raiseCommands chosen first))
+raise-accepted : (room : ℕ) → longestFrames ≤ room → outcome (Call.Raise chosen) room first ≡ accepted raised (framesOf (raiseCommands chosen first))
 unfolding deskAfter commandsOf
 raise-accepted room h =
     whole-outcome (Call.Raise chosen) room first
     (record { is-sound = first-sound; first = ap (λ (x : ℕ). not (eqb x 0)) (chosen-watched .1); some-stands = refl; limit = refl; id = chosen-watched .0 })
     refl h
 
-clear-accepted : (room : ℕ) → longest ≤ room → outcome Call.Clear room raised ≡ accepted (withOverride 0 raised) (framesOf (clearCommands raised))
+clear-accepted : (room : ℕ) → longestFrames ≤ room → outcome Call.Clear room raised ≡ accepted (withOverride 0 raised) (framesOf (clearCommands raised))
 unfolding deskAfter commandsOf
 clear-accepted room h =
     whole-outcome Call.Clear room raised

@@ -11,18 +11,18 @@ use lib.Dec.{leb}
 use borrow.Author.Tests.{leb-true}
 use Rattle.bencode.specs.declared.profile.Profile.{Profile}
 use Rattle.bencode.specs.Bytes.{byteAt, Begins}
-use Rattle.bencode.specs.Integer.{InRange, integerAt}
+use Rattle.bencode.specs.Integers.{InRange, integerAt}
 use Rattle.bencode.specs.Value.{integer, encode, encodeAll}
-use Rattle.bencode.proofs.BeginsLaws.{begins-left, begins-right, begins-head}
-use Rattle.bencode.proofs.Encodings.{values-text}
-use Rattle.bencode.proofs.IntegerLaws.{integer-other}
+use Rattle.bencode.proofs.sequences.BeginsLaws.{begins-left, begins-right, begins-head}
+use Rattle.bencode.proofs.values.Encodings.{values-text}
+use Rattle.bencode.proofs.scalars.IntegerLaws.{integer-other}
 use Rattle.bencode.proofs.Lookups.{reads-integer}
 use Rattle.ipc.specs.Ids.{largestId}
 use Rattle.desk.specs.Watch.{isId, allIds}
 use Rattle.desk.specs.Command.{values, idList}
 use Rattle.desk.specs.Machine.{idsFrom, idsIn}
 use Rattle.desk.specs.Demands.{IdsRead}
-use Rattle.desk.proofs.Cases.{both}
+use Rattle.desk.proofs.numbers.Cases.{both}
 
 id-range : (x : ℕ) → isId x ≡ true → InRange (pos x)
 unfolding isId

@@ -4,23 +4,22 @@ use Prim.Native.Nat.{ℕ, _≤_, _<_}
 use native.Mathlib.Omega.{arith}
 use mathlib.Core.Path.{_≡_, refl, sym, ap, _∙_}
 use mathlib.Core.Bool.{Bool, true, false, cond}
-use mathlib.Core.List.{List, [], _∷_, _++_}
+use mathlib.Core.List.{List, [], _++_}
 use lib.Dec.{eqb, leb}
 use borrow.Author.Tests.{ne-eqb, eq-eqb, le-leb, lt-leb}
-use lib.IntN.{ℤ}
 use lib.ListN.{length, drop}
 use Rattle.desk.specs.declared.record.Desk.{Desk}
 use Rattle.desk.specs.Record.{closed, openedWith, withDown, withUp, withOverride, withRunning}
 use Rattle.desk.specs.Opening.{openCode, refusedOpening, opening}
 use Rattle.desk.specs.Command.{Command, framesOf}
 use Rattle.desk.specs.Refusal.{stands, callFault}
-use Rattle.desk.specs.declared.calls.Call.{Call}
+use Rattle.desk.specs.declared.call.Call.{Call}
 use Rattle.desk.specs.Plan.{Outcome, deskAfter, plan}
 use Rattle.desk.specs.Calls.{refused, decided, framed, delivered, outcome, returned, bufferAfter}
 use Rattle.desk.specs.Demands.{overrideAfter, NumbersGiven, OpeningGiven, RefusalKeeps, RefusalCloses, OverrideMoves}
-use Rattle.desk.proofs.Cases.{by-cases, cond-cases}
-use Rattle.desk.proofs.AcceptedOpening.{opening-code}
-use Rattle.desk.proofs.CallLaws.{Comes, outcome-refused, outcome-cases}
+use Rattle.desk.proofs.numbers.Cases.{by-cases, cond-cases}
+use Rattle.desk.proofs.openings.AcceptedOpening.{opening-code}
+use Rattle.desk.proofs.acting.CallLaws.{Comes, outcome-refused, outcome-cases}
 
 -- an outcome that keeps the record where it refuses, and moves the override where it is accepted
 record Kept (c : Call) (d : Desk) (o : Outcome (List Command)) : Type 0 where

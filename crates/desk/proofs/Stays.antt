@@ -3,9 +3,9 @@
 use Prim.Native.Nat.{ℕ, _<_}
 use native.Mathlib.Omega.{arith}
 use mathlib.Core.Path.{_≡_, refl, sym, ap, _∙_}
-use mathlib.Core.Bool.{Bool, true, false, cond, _||_, or-true, false≢true}
+use mathlib.Core.Bool.{Bool, true, false, _||_, or-true}
 use mathlib.Core.List.{List, [], _∷_}
-use lib.Dec.{leb, eqb}
+use lib.Dec.{eqb}
 use lib.IntN.{ℤ}
 use lib.ListN.{length, take, set, length-take}
 use lib.Seq.{take-set-lt, drop-set-lt}
@@ -14,16 +14,16 @@ use Rattle.desk.specs.Limit.{isLimit}
 use Rattle.desk.specs.Watch.{has, place, unused}
 use Rattle.desk.specs.Record.{watched, sound, withDown, withUp, withOverride, withRunning}
 use Rattle.desk.specs.Command.{Command}
-use Rattle.desk.specs.declared.calls.Call.{Call}
+use Rattle.desk.specs.declared.call.Call.{Call}
 use Rattle.desk.specs.Plan.{Outcome, deferred, deskAfter, plan}
 use Rattle.desk.specs.Calls.{framed, outcome, returned}
 use Rattle.desk.specs.Demands.{desk, Turn, World, after, turn, turns, afterOpening, NeverBadRecord}
-use Rattle.desk.proofs.Cases.{cond-cases}
-use Rattle.desk.proofs.WatchLists.{entry, has-set, place-below, idsOk, ids-set}
-use Rattle.desk.proofs.SoundLaws.{Sound, sound-parts, parts-sound}
-use Rattle.desk.proofs.AcceptedOpening.{opened-sound}
-use Rattle.desk.proofs.RefusalLaws.{Accepted}
-use Rattle.desk.proofs.CallLaws.{Comes, outcome-cases}
+use Rattle.desk.proofs.numbers.Cases.{cond-cases}
+use Rattle.desk.proofs.watching.WatchLists.{entry, has-set, place-below, idsOk, ids-set}
+use Rattle.desk.proofs.records.SoundLaws.{Sound, sound-parts, parts-sound}
+use Rattle.desk.proofs.openings.AcceptedOpening.{opened-sound}
+use Rattle.desk.proofs.acting.RefusalLaws.{Accepted}
+use Rattle.desk.proofs.acting.CallLaws.{Comes, outcome-cases}
 
 -- ---- the record with a change
 running-sound : (d : Desk) (x : ℕ) (on : Bool) → Sound d → has x (watched d) ≡ true → Sound (withRunning x on d)

@@ -1,6 +1,6 @@
--- What a call answers, the record after it and the lent buffer after it (document 01, 'The desk': refusals return the record as it
--- was handed in and count 0; the frames stand joined from the buffer's start, the count is their bytes in all, and past them the
--- buffer is unchanged).
+-- To be believed. What a call answers, the record after it and the lent buffer after it (document 01, 'The desk': refusals
+-- return the record as it was handed in and count 0; the frames stand joined from the buffer's start, the count is their bytes
+-- in all, and past them the buffer is unchanged).
 -- Assumes nothing.
 use Prim.Native.Nat.{ℕ}
 use mathlib.Core.Path.{_≡_}
@@ -8,7 +8,7 @@ use mathlib.Core.Bool.{cond}
 use mathlib.Core.List.{List, [], _++_}
 use lib.Dec.{leb, eqb}
 use lib.ListN.{length, drop}
-use Rattle.desk.specs.declared.calls.Call.{Call}
+use Rattle.desk.specs.declared.call.Call.{Call}
 use Rattle.desk.specs.declared.record.Desk.{Desk}
 use Rattle.desk.specs.declared.done.Done.{Done}
 use Rattle.desk.specs.Command.{Command, framesOf}

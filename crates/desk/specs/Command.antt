@@ -1,4 +1,5 @@
--- The commands that the desk sends, and their frames as the frame writer writes them (document 01, 'The desk').
+-- What is sent is pinned by `Demand3`; the order of commands is to be believed. The commands that the desk sends, and their
+-- frames as the frame writer writes them (document 01, 'The desk').
 -- Assumes nothing.
 use Prim.Native.Nat.{ℕ, _≤_}
 use mathlib.Core.Path.{_≡_}
@@ -7,9 +8,9 @@ use mathlib.Core.List.{List, [], _∷_, _++_}
 use lib.IntN.{ℤ, pos}
 use lib.ListN.{length}
 use Rattle.bencode.specs.Value.{integer, list, Values, no-value, value, encode}
-use Rattle.ipc.specs.declared.write.Given.{Given}
+use Rattle.ipc.specs.declared.writer.Given.{Given}
 use Rattle.ipc.specs.Header.{largestPayload}
-use Rattle.ipc.specs.Write.{payloadOf, frameOf, messageFault}
+use Rattle.ipc.specs.Writer.{payloadOf, frameOf, messageFault}
 
 -- downlimit, uplimit, start and stop
 pub data Command : Type 0 where
@@ -71,8 +72,8 @@ listing c [] = []
 listing c (x ∷ xs) = c (x ∷ xs) ∷ []
 
 -- the most bytes that a call writes
-abbrev pub longest : ℕ
-longest = 479
+abbrev pub longestFrames : ℕ
+longestFrames = 479
 
 -- ---- for the functions that put frames
 -- the frame of a list of IDs; none where the list is empty

@@ -1,4 +1,4 @@
--- What is proved of the desk as a whole. Each statement is a type; its proof stands in proofs/ under the same name in lower case.
+-- Statements of the desk as a whole. Each is a type; its proof stands in proofs/ under the same name in lower case.
 -- Assumes nothing.
 use Prim.Native.Nat.{ℕ, _≤_, _<_}
 use mathlib.Core.Path.{_≡_}
@@ -8,18 +8,18 @@ use mathlib.Core.Option.{Option, some, none}
 use lib.Dec.{eqb}
 use lib.IntN.{ℤ}
 use lib.ListN.{length, take}
-use Rattle.desk.specs.declared.calls.Call.{Call}
+use Rattle.desk.specs.declared.call.Call.{Call}
 use Rattle.desk.specs.declared.watch.Watch.{Watch}
 use Rattle.desk.specs.declared.record.Desk.{Desk}
 use Rattle.desk.specs.Limit.{unlimited}
 use Rattle.desk.specs.Watch.{mostWatched, allIds, has, marked}
 use Rattle.desk.specs.Record.{closed}
 use Rattle.desk.specs.Opening.{openCode, opening}
-use Rattle.desk.specs.Command.{idList, framesOf, longest}
+use Rattle.desk.specs.Command.{idList, framesOf, longestFrames}
 use Rattle.desk.specs.Refusal.{callFault}
 use Rattle.desk.specs.Plan.{Outcome, plan}
 use Rattle.desk.specs.Calls.{outcome, returned, bufferAfter}
-use Rattle.desk.specs.Machine.{Machine, listed, handed, idsIn, aloneAfter}
+use Rattle.desk.specs.Machine.{Machine, isAmong, handed, idsIn, aloneAfter}
 
 -- ---- demand 3: the builds that it judges
 -- what a call of a build answers: its code, how many bytes it wrote, the build's record and the lent buffer after it
@@ -110,7 +110,7 @@ Demand3For b =
     (watch : List Watch) (down up : ℤ) (others : ℕ → Bool) (calls : List Turn) → opening (length watch) watch down up .code ≡ 0
     → let w = turns b calls (afterOpening b watch down up others) in
     (w .standing ≡ [] → w .daemon ≡ some (w .alone))
-    × ((x : ℕ) → listed x (w .standing) ≡ true → w .daemon ≡ some (overridden watch others x))
+    × ((x : ℕ) → isAmong x (w .standing) ≡ true → w .daemon ≡ some (overridden watch others x))
 
 abbrev pub Demand3 : Type 0
 Demand3 = Demand3For desk
@@ -151,14 +151,14 @@ ListFixed = (c : Call) (room : ℕ) (d : Desk) → let next = outcome c room d .
 
 -- no call writes more than 479 bytes
 abbrev pub NoLonger : Type 0
-NoLonger = (c : Call) (room : ℕ) (d : Desk) → length (outcome c room d .sent) ≤ longest
+NoLonger = (c : Call) (room : ℕ) (d : Desk) → length (outcome c room d .sent) ≤ longestFrames
 
 -- and one writes as many: after some accepted opening with 32 records and an accepted raise, the clear, whatever room from 479 on
 -- is lent
 abbrev pub LongestReached : Type 0
 LongestReached = (watch : List Watch) × (down : ℤ) × (up : ℤ) × (x : ℕ) × (length watch ≡ mostWatched) × (opening (length watch) watch down up .code ≡ 0)
-    × ((room : ℕ) → longest ≤ room → let raised = outcome (Call.Raise x) room (opening (length watch) watch down up .desk) in
-    (raised .code ≡ 0) × (length (outcome Call.Clear room (raised .desk) .sent) ≡ longest))
+    × ((room : ℕ) → longestFrames ≤ room → let raised = outcome (Call.Raise x) room (opening (length watch) watch down up .desk) in
+    (raised .code ≡ 0) × (length (outcome Call.Clear room (raised .desk) .sent) ≡ longestFrames))
 
 -- after an accepted opening no call answers 38
 abbrev pub NeverBadRecord : Type 0

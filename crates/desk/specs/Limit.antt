@@ -1,4 +1,4 @@
--- Limits (document 01, 'The desk': -1 for none, to 1,000,000 kilobytes a second).
+-- To be believed. Limits (document 01, 'The desk': -1 for none, to 1,000,000 kilobytes a second).
 -- Assumes nothing.
 use mathlib.Core.Bool.{Bool, cond, _&&_}
 use lib.IntN.{ℤ, pos, negsuc}

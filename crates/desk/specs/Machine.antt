@@ -1,4 +1,4 @@
--- The two machines of demand 3 (document 01, 'The desk'): each is two limits and a set of running IDs.
+-- To be believed. The two machines of demand 3 (document 01, 'The desk'): each is two limits and a set of running IDs.
 -- Assumes nothing.
 use Prim.Native.Nat.{ℕ, zero, suc, _+_}
 use mathlib.Core.Bool.{Bool, false, cond, not, _&&_, _||_}
@@ -7,13 +7,13 @@ use mathlib.Core.Option.{Option, some, none}
 use lib.Dec.{leb, eqb}
 use lib.IntN.{ℤ, natAbs}
 use lib.ListN.{length, drop}
-use Rattle.bencode.specs.declared.integer.Number.{Number}
+use Rattle.bencode.specs.declared.integers.Number.{Number}
 use Rattle.bencode.specs.Bytes.{part as bytesFrom}
-use Rattle.bencode.specs.Integer.{integerAt}
+use Rattle.bencode.specs.Integers.{integerAt}
 use Rattle.ipc.specs.Answer.{Answer, Content, nothing, integer, text, part, versions}
-use Rattle.ipc.specs.Frame.{readFrame}
+use Rattle.ipc.specs.Reader.{readFrame}
 use Rattle.desk.specs.Command.{Command, downlimitKey, startKey, stopKey, uplimitKey}
-use Rattle.desk.specs.declared.calls.Call.{Call}
+use Rattle.desk.specs.declared.call.Call.{Call}
 
 pub record Machine : Type 0 where
   pub down : ℤ
@@ -21,16 +21,16 @@ pub record Machine : Type 0 where
   pub runs : ℕ → Bool
 
 -- is a number in a list
-unfoldable pub listed : ℕ → List ℕ → Bool
-listed x [] = false
-listed x (y ∷ ys) = eqb y x || listed x ys
+unfoldable pub isAmong : ℕ → List ℕ → Bool
+isAmong x [] = false
+isAmong x (y ∷ ys) = eqb y x || isAmong x ys
 
 -- downlimit or uplimit sets that limit; start adds the listed IDs to the set, stop takes them out
 unfoldable pub obey : Command → Machine → Machine
 obey (Command.setDown n) m = record { down = n; up = m .up; runs = m .runs }
 obey (Command.setUp n) m = record { down = m .down; up = n; runs = m .runs }
-obey (Command.start ids) m = record { down = m .down; up = m .up; runs = λ x. listed x ids || m .runs x }
-obey (Command.stop ids) m = record { down = m .down; up = m .up; runs = λ x. not (listed x ids) && m .runs x }
+obey (Command.start ids) m = record { down = m .down; up = m .up; runs = λ x. isAmong x ids || m .runs x }
+obey (Command.stop ids) m = record { down = m .down; up = m .up; runs = λ x. not (isAmong x ids) && m .runs x }
 
 -- ---- the daemon: it takes bytes frame by frame, as the frame reader reads them
 -- the IDs of a list of integers from an offset on, at most so many: up to the first byte that begins no integer, the list's `e`

@@ -1,4 +1,5 @@
--- Opening the desk (document 01, 'The desk': 35, 30, then record by record 36, 37; a refused opening returns a closed desk).
+-- To be believed. Opening the desk (document 01, 'The desk': 35, 30, then record by record 36, 37; a refused opening returns a
+-- closed desk).
 -- Assumes nothing.
 use Prim.Native.Nat.{ℕ}
 use mathlib.Core.Bool.{cond, _&&_}
@@ -6,14 +7,14 @@ use mathlib.Core.List.{List, []}
 use lib.Dec.{leb, eqb}
 use lib.IntN.{ℤ}
 use Rattle.desk.specs.declared.watch.Watch.{Watch}
-use Rattle.desk.specs.declared.opening.Opened.{Opened}
+use Rattle.desk.specs.declared.done.Opened.{Opened}
 use Rattle.desk.specs.Limit.{isLimit}
-use Rattle.desk.specs.Watch.{mostWatched, fault}
+use Rattle.desk.specs.Watch.{mostWatched, listFault}
 use Rattle.desk.specs.Record.{closed, openedWith}
 
 -- the code of an opening with n records
 unfoldable pub openCode : ℕ → List Watch → ℤ → ℤ → ℕ
-openCode n ws down up = cond (leb n mostWatched) (cond (isLimit down && isLimit up) (fault [] ws) 30) 35
+openCode n ws down up = cond (leb n mostWatched) (cond (isLimit down && isLimit up) (listFault [] ws) 30) 35
 
 unfoldable pub refusedOpening : ℕ → Opened
 refusedOpening code = record { code = code; desk = closed }

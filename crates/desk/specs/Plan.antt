@@ -1,10 +1,10 @@
--- What an accepted call does: its code, the record after it and the commands it sends (document 01, 'The desk': routine, raise and
--- clear).
+-- What the daemon gets is pinned by `Demand3`; codes are to be believed. What an accepted call does: its code, the record after
+-- it and the commands it sends (document 01, 'The desk': routine, raise and clear).
 -- Assumes nothing.
 use Prim.Native.Nat.{ℕ}
 use mathlib.Core.Bool.{Bool, true, false, cond}
 use mathlib.Core.List.{List, [], _∷_, _++_}
-use Rattle.desk.specs.declared.calls.Call.{Call}
+use Rattle.desk.specs.declared.call.Call.{Call}
 use Rattle.desk.specs.declared.lists.Pick.{Pick}
 use Rattle.desk.specs.declared.record.Desk.{Desk}
 use Rattle.desk.specs.Limit.{unlimited}

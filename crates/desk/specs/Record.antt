@@ -1,4 +1,4 @@
--- The desk's record (document 01, 'The desk': which records are 38, and how an accepted call changes one).
+-- To be believed. The desk's record (document 01, 'The desk': which records are 38, and how an accepted call changes one).
 -- Assumes nothing.
 use Prim.Native.Nat.{ℕ}
 use mathlib.Core.Bool.{Bool, true, false, _&&_, _||_}
@@ -9,7 +9,7 @@ use lib.ListN.{take, drop, set}
 use Rattle.desk.specs.declared.watch.Watch.{Watch}
 use Rattle.desk.specs.declared.record.Desk.{Desk}
 use Rattle.desk.specs.Limit.{isLimit}
-use Rattle.desk.specs.Watch.{mostWatched, padded, unused, has, place, fault}
+use Rattle.desk.specs.Watch.{mostWatched, padded, unused, has, place, listFault}
 
 -- the records in use
 abbrev pub watched : Desk → List Watch
@@ -22,7 +22,7 @@ limitsSound d = isLimit (d .down) && isLimit (d .up)
 -- every ID in range and none again, unused places zero, and an override on a watched ID where one stands
 unfoldable pub listSound : Desk → Bool
 listSound d =
-    eqb (fault [] (watched d)) 0
+    eqb (listFault [] (watched d)) 0
     && (unused (drop (d .count) (d .watch)) && (eqb (d .«override_id») 0 || has (d .«override_id») (watched d)))
 
 -- a record that is not 38

@@ -1,10 +1,10 @@
--- When a call is refused (document 01, 'The desk': the order in a call is 38, 32 or 33, 30, 31, 34; 34 looks at the frames and
--- stands in `Calls`).
+-- To be believed. When a call is refused (document 01, 'The desk': the order in a call is 38, 32 or 33, 30, 31, 34; 34 looks at
+-- the frames and stands in `Calls`).
 -- Assumes nothing.
 use Prim.Native.Nat.{ℕ}
 use mathlib.Core.Bool.{Bool, true, false, cond, not}
 use lib.Dec.{eqb}
-use Rattle.desk.specs.declared.calls.Call.{Call}
+use Rattle.desk.specs.declared.call.Call.{Call}
 use Rattle.desk.specs.declared.record.Desk.{Desk}
 use Rattle.desk.specs.Limit.{isLimit}
 use Rattle.desk.specs.Watch.{has}

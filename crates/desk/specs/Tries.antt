@@ -1,5 +1,5 @@
--- Bytes to try on the daemon of demand 3, in one table with a single statement (document 01, 'The desk': whole accepted frames, each
--- of key 5, 16, 18 or 20, and nothing else).
+-- A statement that antt computes: bytes to try on the daemon of demand 3, in one table (document 01, 'The desk': whole accepted
+-- frames, each of key 5, 16, 18 or 20, and nothing else).
 -- Assumes nothing.
 use Prim.Native.Nat.{ℕ}
 use Prim.Native.String.{String}

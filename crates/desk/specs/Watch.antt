@@ -1,11 +1,11 @@
--- The watch list (document 01, 'The desk': records of an ID and a running mark, at most 32, unused places zero).
+-- To be believed. The watch list (document 01, 'The desk': records of an ID and a running mark, at most 32, unused places zero).
 -- Assumes nothing.
 use Prim.Native.Nat.{ℕ, zero, suc}
 use mathlib.Core.Bool.{Bool, true, false, cond, not, _&&_, _||_}
 use mathlib.Core.List.{List, [], _∷_, _++_}
 use lib.Dec.{eqb}
 use lib.IntN.{pos}
-use Rattle.bencode.specs.Integer.{within}
+use Rattle.bencode.specs.Integers.{within}
 use Rattle.ipc.specs.Ids.{largestId}
 use Rattle.desk.specs.declared.watch.Watch.{Watch}
 use Rattle.desk.specs.declared.lists.Pick.{Pick}
@@ -58,9 +58,9 @@ marked x [] = false
 marked x (w ∷ ws) = cond (eqb (w .id) x) (w .running) (marked x ws)
 
 -- the first fault, record by record after those seen: 36 an ID out of range, 37 an ID again, 0 none
-unfoldable pub fault : List Watch → List Watch → ℕ
-fault seen [] = 0
-fault seen (w ∷ ws) = cond (isId (w .id)) (cond (has (w .id) seen) 37 (fault (seen ++ (w ∷ [])) ws)) 36
+unfoldable pub listFault : List Watch → List Watch → ℕ
+listFault seen [] = 0
+listFault seen (w ∷ ws) = cond (isId (w .id)) (cond (has (w .id) seen) 37 (listFault (seen ++ (w ∷ [])) ws)) 36
 
 -- the records that a start or stop lists: all but an ID, those marked running, or those marked stopped
 abbrev pub picked : Pick → Watch → Bool

@@ -1,14 +1,14 @@
--- Desks that are worthless or wrong (document 01, 'What each result must determine' and 'Easy ways to go wrong'), and that demand 1
--- or demand 3 itself rules each of them out.
+-- Statements: desks that are worthless or wrong fall by demand 1 or demand 3 itself (document 01, 'What each result must
+-- determine' and 'Easy ways to go wrong').
 -- Assumes nothing.
 use Prim.Native.Nat.{ℕ, _≤_}
 use mathlib.Core.Path.{_≡_}
-use mathlib.Core.Bool.{Bool, true, false, cond, not, _&&_}
+use mathlib.Core.Bool.{Bool, true, false, cond, _&&_}
 use mathlib.Core.List.{List, []}
-use lib.Dec.{eqb}
+use lib.Dec.{eqb, leb}
 use lib.IntN.{ℤ}
 use lib.ListN.{length}
-use Rattle.desk.specs.declared.calls.Call.{Call}
+use Rattle.desk.specs.declared.call.Call.{Call}
 use Rattle.desk.specs.declared.record.Desk.{Desk}
 use Rattle.desk.specs.declared.watch.Watch.{Watch}
 use Rattle.desk.specs.Record.{withOverride}
@@ -48,9 +48,13 @@ heldWrites = buildOf (λ c room d.
 abbrev pub HeldWritesFalls : Type 0
 HeldWritesFalls = Demand3For heldWrites → ⊥
 
+-- an outcome on another record than the one handed in; a refusal returns that one
+abbrev from : Desk → Outcome (List ℕ) → Outcome (List ℕ)
+from d o = cond (leb (o .code) 1) o (record { code = o .code; desk = d; sent = o .sent })
+
 -- one in which a second raise moves the override
 unfoldable pub secondRaise : Build
-secondRaise = buildOf (λ c room d. outcome c room (cond (raisesAgain c d) (withOverride 0 d) d))
+secondRaise = buildOf (λ c room d. from d (outcome c room (cond (raisesAgain c d) (withOverride 0 d) d)))
 
 abbrev pub SecondRaiseFalls : Type 0
 SecondRaiseFalls = Demand3For secondRaise → ⊥
@@ -99,7 +103,7 @@ restoresCopy = record {
   Record = Beside Desk;
   opened = λ watch down up. let d = opening (length watch) watch down up .desk in record { now = d; kept = d };
   called = λ c before r.
-      let o = outcome c (length before) (cond (isClear c && stands (r .now)) (r .kept) (r .now)) in
+      let o = from (r .now) (outcome c (length before) (cond (isClear c && stands (r .now)) (r .kept) (r .now))) in
       answered o before (cond (isRaise c && eqb (o .code) 0) (o .desk) (r .kept));
 }
 

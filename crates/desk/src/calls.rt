@@ -1,25 +1,16 @@
-// The calls on an open desk.
+// A call made: refused, deferred, or its frames delivered.
 ghost use mathlib.Core.Path.{_≡_};
 ghost use lib.ListN.{length};
 ghost use Rattle.desk.specs.Calls.{refused, accepted, delivered, outcome, returned, Returned};
+use super::call::Call;
 use super::done::Done;
-use super::done::LONGEST;
+use super::done::LONGEST_FRAMES;
 use super::plan::desk_after;
 use super::plan::is_deferred;
 use super::plan::put_commands;
 use super::record::Desk;
 use super::refusal::call_fault;
-use bencode::put::put_bytes;
-
-// A routine request (a down limit, an up limit, a start or a stop of one transfer), a raise or a clear.
-pub enum Call {
-    Down(i32),
-    Up(i32),
-    Start(u32),
-    Stop(u32),
-    Raise(u32),
-    Clear,
-}
+use bencode::put_bytes;
 
 // A refusal: the record as it was handed in.
 fn refuse(d: Desk, code: u8) -> Done
@@ -63,7 +54,7 @@ pub fn perform(d: Desk, call: Call, out: &mut [u8]) -> Done
             desk: next,
         };
     }
-    let mut frames = [0u8; LONGEST];
+    let mut frames = [0u8; LONGEST_FRAMES];
     let n = put_commands(&mut frames, d, call);
     deliver(d, next, &frames[..n], out)
 }

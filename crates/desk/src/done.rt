@@ -1,8 +1,8 @@
-// What a call answers.
+// What a call and an opening answer.
 use super::record::Desk;
 
 // The most bytes that a call writes.
-pub const LONGEST: usize = 479;
+pub const LONGEST_FRAMES: usize = 479;
 
 // A call's code, how many bytes it wrote, and the record after it.
 pub struct Done {
@@ -26,4 +26,21 @@ impl Done {
     pub const ROOM: u8 = 34;
     // A record that is closed or breaks a rule of the record.
     pub const RECORD: u8 = 38;
+}
+
+// An opening's code and the desk, which is closed where the opening is refused.
+pub struct Opened {
+    pub code: u8,
+    pub desk: Desk,
+}
+
+impl Opened {
+    // A limit out of range.
+    pub const LIMIT: u8 = Done::LIMIT;
+    // More records than places.
+    pub const LIST: u8 = 35;
+    // An ID out of range.
+    pub const ID_RANGE: u8 = 36;
+    // An ID again.
+    pub const ID_AGAIN: u8 = 37;
 }

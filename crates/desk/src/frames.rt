@@ -6,23 +6,23 @@ ghost use Prim.Native.Nat.{_+_, _≤_};
 ghost use lib.ListN.{length};
 ghost use Rattle.bencode.specs.Put.{Wrote, Put};
 ghost use Rattle.bencode.specs.Value.{encodeAll};
-ghost use Rattle.ipc.specs.declared.write.Given.{Given};
+ghost use Rattle.ipc.specs.declared.writer.Given.{Given};
 ghost use Rattle.ipc.specs.Ids.{largestTag};
 ghost use Rattle.desk.specs.Limit.{isLimit};
 ghost use Rattle.desk.specs.Watch.{mostWatched, isId, has, pickIds};
 ghost use Rattle.desk.specs.Record.{watched, sound};
 ghost use Rattle.desk.specs.Command.{values, idList, messageFrame, limitFrame, idsFrame, listedFrame, framesOf, Writable, LimitKey, ListKey};
 ghost use Rattle.desk.specs.Plan.{raiseCommands, clearCommands};
-use super::done::LONGEST;
+use super::done::LONGEST_FRAMES;
 use super::limit::Limit;
 use super::lists::Pick;
 use super::lists::picks;
 use super::record::Desk;
-use bencode::put::put_bytes;
-use bencode::put::put_integer;
-use ipc::write::Given;
-use ipc::write::Written;
-use ipc::write::write;
+use bencode::put_bytes;
+use bencode::put_integer;
+use ipc::Given;
+use ipc::Written;
+use ipc::write;
 
 // The numbers of the keys that the desk writes.
 pub const DOWNLIMIT: u8 = 5;
@@ -66,7 +66,7 @@ pub fn put_one(out: &mut [u8], at: usize, key: u8, id: u32, tag: u32) -> usize
     requires { ⌜ ListKey key × (isId id ≡ true) × (tag ≤ largestTag) ⌝ }
     ensures { λ r. ⌜ Put (now (out .entry)) at (idsFrame tag key (id ∷ [])) (now (out .exit)) r ⌝ }
 {
-    let mut list = [0u8; LONGEST];
+    let mut list = [0u8; LONGEST_FRAMES];
     let o = put_bytes(&mut list, 0, b"l");
     let o = put_integer(&mut list, o, id as i64);
     let n = put_bytes(&mut list, o, b"e");
@@ -106,7 +106,7 @@ fn put_listed(out: &mut [u8], at: usize, key: u8, d: Desk, pick: Pick, tag: u32)
     requires { ⌜ ListKey key × (sound d ≡ true) × (tag ≤ largestTag) ⌝ }
     ensures { λ r. ⌜ Put (now (out .entry)) at (listedFrame tag key (pickIds pick (watched d))) (now (out .exit)) r ⌝ }
 {
-    let mut list = [0u8; LONGEST];
+    let mut list = [0u8; LONGEST_FRAMES];
     let n = put_ids(&mut list, d, pick);
     if n == EMPTY_LIST {
         return at;

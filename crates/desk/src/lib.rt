@@ -2,6 +2,7 @@
 // the whole link while an override stands, and restores what is desired when it is cleared.
 // Every function here takes any record and any buffer: what is bad is refused by document 01's numbers, and a refusal changes
 // nothing. The record goes in and comes back by value.
+mod call;
 mod calls;
 mod change;
 mod done;
@@ -15,13 +16,13 @@ mod refusal;
 mod sound;
 mod watch;
 
-pub use calls::Call;
+pub use call::Call;
 pub use calls::perform;
 pub use done::Done;
-pub use done::LONGEST;
+pub use done::LONGEST_FRAMES;
+pub use done::Opened;
 pub use limit::Limit;
 pub use limit::OptionalLimit;
-pub use opening::Opened;
 pub use opening::open;
 pub use opening::open_records;
 pub use record::Desk;

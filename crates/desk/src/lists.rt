@@ -3,12 +3,12 @@ ghost use mathlib.Core.Path.{_≡_};
 ghost use mathlib.Core.List.{[]};
 ghost use Prim.Native.Nat.{_≤_, _<_};
 ghost use lib.ListN.{take, drop, replicate, set};
-ghost use Rattle.desk.specs.Watch.{mostWatched, isId, empty, has, place, fault, unused, padded, picked};
-use super::opening::Opened;
+ghost use Rattle.desk.specs.Watch.{mostWatched, isId, empty, has, place, listFault, unused, padded, picked};
+use super::done::Opened;
 use super::watch::PLACES;
 use super::watch::Watch;
-use ipc::ids::OptionalId;
-use ipc::ids::TorrentId;
+use ipc::OptionalId;
+use ipc::TorrentId;
 
 // Which of the watched transfers a start or stop lists: all but one, those desired running, or those desired stopped.
 pub enum Pick {
@@ -64,7 +64,7 @@ pub fn has_id(places: [Watch; PLACES], n: usize, id: u32) -> bool
 // The first fault of the first n records: an ID out of range, an ID again, or 0 for none.
 pub fn fault_of(places: [Watch; PLACES], n: usize) -> u8
     requires { ⌜ n ≤ mostWatched ⌝ }
-    ensures { λ r. ⌜ r ≡ fault [] (take n places) ⌝ }
+    ensures { λ r. ⌜ r ≡ listFault [] (take n places) ⌝ }
 {
     let mut i: usize = 0;
     while i < n {

@@ -4,6 +4,7 @@ ghost use Prim.Native.Nat.{_≤_, min};
 ghost use lib.ListN.{length, take};
 ghost use Rattle.desk.specs.Watch.{mostWatched, padded};
 ghost use Rattle.desk.specs.Opening.{refusedOpening, opening};
+use super::done::Opened;
 use super::limit::is_limit;
 use super::lists::cleared_from;
 use super::lists::fault_of;
@@ -13,23 +14,6 @@ use super::record::Desk;
 use super::record::closed_desk;
 use super::watch::PLACES;
 use super::watch::Watch;
-
-// An opening's code and the desk, which is closed where the opening is refused.
-pub struct Opened {
-    pub code: u8,
-    pub desk: Desk,
-}
-
-impl Opened {
-    // A limit out of range.
-    pub const LIMIT: u8 = 30;
-    // More records than places.
-    pub const LIST: u8 = 35;
-    // An ID out of range.
-    pub const ID_RANGE: u8 = 36;
-    // An ID again.
-    pub const ID_AGAIN: u8 = 37;
-}
 
 // A refused opening.
 fn refuse_opening(code: u8) -> Opened

@@ -3,10 +3,10 @@ ghost use mathlib.Core.Path.{_≡_};
 ghost use Prim.Native.Nat.{_≤_};
 ghost use lib.ListN.{length};
 ghost use Rattle.bencode.specs.Put.{Wrote};
-ghost use Rattle.desk.specs.Command.{framesOf, longest};
+ghost use Rattle.desk.specs.Command.{framesOf, longestFrames};
 ghost use Rattle.desk.specs.Refusal.{callFault};
 ghost use Rattle.desk.specs.Plan.{deferred, deskAfter, commandsOf};
-use super::calls::Call;
+use super::call::Call;
 use super::change::with_down;
 use super::change::with_override;
 use super::change::with_running;
@@ -51,7 +51,7 @@ pub fn desk_after(d: Desk, call: Call) -> Desk
 
 // Puts the frames of a call.
 pub fn put_commands(out: &mut [u8], d: Desk, call: Call) -> usize
-    requires { ⌜ (callFault call d ≡ 0) × (longest ≤ length (now out)) ⌝ }
+    requires { ⌜ (callFault call d ≡ 0) × (longestFrames ≤ length (now out)) ⌝ }
     ensures { λ r. ⌜ Wrote (now (out .entry)) 0 (framesOf (commandsOf call d)) (now (out .exit)) r ⌝ }
 {
     match call {

@@ -3,7 +3,7 @@ ghost use mathlib.Core.Path.{_≡_};
 ghost use Prim.Native.Nat.{_≤_};
 ghost use Rattle.desk.specs.Watch.{mostWatched};
 ghost use Rattle.desk.specs.Refusal.{stands, raisesAgain, clearsNone, limitFits, idFits, callFault};
-use super::calls::Call;
+use super::call::Call;
 use super::done::Done;
 use super::limit::is_limit;
 use super::record::Desk;

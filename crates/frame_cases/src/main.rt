@@ -4,7 +4,7 @@ mod number;
 mod reading;
 mod written;
 
-use ipc::numbers::numbers_of;
+use ipc::numbers_of;
 use reading::print_reading;
 use written::print_agreed;
 use written::print_handshake;
@@ -14,7 +14,7 @@ use written::print_message;
 fn answer_case(operation: u8, body: &[u8], out: &mut [u8]) -> bool {
     match operation {
         b'r' => {
-            print_reading(numbers_of(ipc::read::read(body)));
+            print_reading(numbers_of(ipc::read(body)));
             true
         }
         b'w' => print_message(body, out),

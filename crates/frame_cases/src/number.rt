@@ -1,5 +1,5 @@
 // The numbers of a case's body, the lowest byte first.
-use bencode::bytes::byte_at;
+use bencode::byte_at;
 use cases::number_of;
 
 // The 4 bytes at an offset; a byte past the end counts as 0.

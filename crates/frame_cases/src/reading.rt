@@ -1,8 +1,8 @@
 // A reading as a line: `code offset consumed kind key tag value`.
 use cases::print;
 use cases::print_number;
-use ipc::numbers::Numbers;
-use ipc::numbers::ValueNumbers;
+use ipc::Numbers;
+use ipc::ValueNumbers;
 
 // A number and a space.
 fn print_field(n: u64) {
@@ -23,7 +23,7 @@ fn print_integer(v: i64) {
     if v < 0 {
         print(b"-");
     }
-    print_number(bencode::integer::magnitude(v));
+    print_number(bencode::magnitude(v));
 }
 
 fn print_value(value: ValueNumbers) {

@@ -2,13 +2,13 @@
 -- Assumes nothing.
 use Prim.Native.Nat.{ℕ, zero, suc, _+_, _-_, _*_, _≤_, _<_}
 use mathlib.Core.Path.{_≡_, refl, sym, ap, subst, _∙_}
-use mathlib.Core.Bool.{Bool, true, false, cond, _&&_, _||_}
+use mathlib.Core.Bool.{Bool, true, false, _&&_, _||_}
 use mathlib.Core.Logic.{_⊎_, ⊎-elim}
 use mathlib.Core.List.{List, [], _∷_, _++_, append-nil}
 use native.Mathlib.Omega.{arith}
 use native.Mathlib.Decide.{decLt}
-use borrow.Author.Tests.{eqb-true, leb-true}
-use lib.Dec.{eqb, leb}
+use borrow.Author.Tests.{leb-true}
+use lib.Dec.{leb}
 use lib.ListN.{length, take, drop, length-append, take-append-drop}
 use lib.Seq.{length-take-le, take-append-seam, drop-at}
 use Rattle.bencode.specs.declared.fault.Walk.{Walk}
@@ -18,22 +18,22 @@ use Rattle.bencode.specs.Depth.{largestDepth}
 use Rattle.bencode.specs.Walk.{payloadAt}
 use Rattle.bencode.specs.Value.{Value, integer, string, list, dictionary, encode, WellFormed}
 use Rattle.bencode.proofs.Grammar.{accepts-exactly as payload-accepts}
-use Rattle.bencode.proofs.JudgeLaws.{walked-whole}
+use Rattle.bencode.proofs.Judgement.{walked-whole}
 use Rattle.bencode.proofs.Lookups.{starts, items-begin, entries-begin}
 use Rattle.ipc.specs.declared.header.Header.{Header}
 use Rattle.ipc.specs.declared.header.Sized.{Sized}
 use Rattle.ipc.specs.Answer.{Answer, refused, answerOf}
 use Rattle.ipc.specs.Header.{largestPayload, protocolPayload, hexValue, headerIn, readHeader}
-use Rattle.ipc.specs.Frame.{payloadReading, frameReading, readFrame}
+use Rattle.ipc.specs.Reader.{payloadReading, frameReading, readFrame}
 use Rattle.ipc.specs.Meaning.{meaning}
 use Rattle.ipc.specs.Demands.{HexDigits, none, more, hexFrom, Framed, AnswersMeaning, AcceptsExactly, Headed, AnswerRow, framed, short-header, short-payload, no-digit, over-protocol, over-limit, payload-fault, AnswersByRow}
-use Rattle.ipc.proofs.HeaderLaws.{in-some, in-none}
-use Rattle.ipc.proofs.FrameLaws.{payload-fault as fault-payload, payload-dictionary, payload-list, payload-scalar, length-short, length-there, sized-fits, sized-over-limit, sized-over-protocol, frame-no-digit, frame-short, frame-sized}
-use Rattle.ipc.proofs.Messages.{message-means}
+use Rattle.ipc.proofs.headers.HeaderLaws.{in-some, in-none}
+use Rattle.ipc.proofs.frames.FrameLaws.{payload-fault as fault-payload, payload-dictionary, payload-list, payload-scalar, length-short, length-there, sized-fits, sized-over-limit, sized-over-protocol, frame-no-digit, frame-short, frame-sized}
+use Rattle.ipc.proofs.meaning.Messages.{message-means}
 use Rattle.bencode.specs.Key.{isFaultCode}
-use Rattle.bencode.proofs.Order.{clash}
+use Rattle.bencode.proofs.sequences.Order.{clash}
 use Rattle.bencode.proofs.FaultCodes.{faults-coded}
-use Rattle.ipc.proofs.Handshakes.{handshake-means}
+use Rattle.ipc.proofs.meaning.Handshakes.{handshake-means}
 
 -- ---- payloads
 -- the answer to the encoding of a well-formed value is what it means. Over any number of levels: with 16 antt writes all of them out

@@ -11,31 +11,31 @@ use lib.IntN.{ℤ, pos, negsuc}
 use lib.ListN.{length}
 use Rattle.bencode.specs.declared.fault.Fault.{Fault}
 use Rattle.bencode.specs.declared.fault.Walk.{Walk}
-use Rattle.bencode.specs.declared.integer.Number.{Number}
+use Rattle.bencode.specs.declared.integers.Number.{Number}
 use Rattle.bencode.specs.declared.profile.Profile.{Profile}
 use Rattle.bencode.specs.Bytes.{letterL, byteAt, Begins}
 use Rattle.bencode.specs.Depth.{largestDepth}
 use Rattle.bencode.specs.Fault.{fault}
-use Rattle.bencode.specs.Integer.{InRange, integerAt, within}
+use Rattle.bencode.specs.Integers.{InRange, integerAt, within}
 use Rattle.bencode.specs.Loop.{Step, done, after, repeat, itemStep}
 use Rattle.bencode.specs.Scalar.{scalarAt}
 use Rattle.bencode.specs.Value.{Value, integer, string, list, dictionary, Values, no-value, value, encode, All, WellFormed}
 use Rattle.bencode.specs.Walk.{onward, listStep, listFrom, valueAt, payloadAt}
-use Rattle.bencode.proofs.Ends.{SignedInteger, plus, minus, integer-inv}
+use Rattle.bencode.proofs.walking.Ends.{SignedInteger, plus, minus, integer-inv}
 use Rattle.bencode.proofs.Grammar.{accepts-exactly}
 use Rattle.bencode.proofs.Lookups.{starts, items-begin}
-use Rattle.bencode.proofs.Order.{clash}
-use Rattle.bencode.proofs.WalkLaws.{value-scalar, value-list}
+use Rattle.bencode.proofs.sequences.Order.{clash}
+use Rattle.bencode.proofs.walking.WalkLaws.{value-scalar, value-list}
 use Rattle.ipc.specs.declared.format.Items.{Items}
 use Rattle.ipc.specs.declared.format.OptionalEnd.{OptionalEnd}
 use Rattle.ipc.specs.declared.ids.OptionalId.{OptionalId}
 use Rattle.ipc.specs.Format.{endById, endOfId, idEnd, itemEnd, pastItem, itemsEnd}
 use Rattle.ipc.specs.Demands.{IdList, IdListExactly}
 use Rattle.ipc.specs.Ids.{largestId, torrentIdOf}
-use Rattle.ipc.specs.Meaning.{isId, every}
-use Rattle.ipc.specs.Write.{endsAt, isIdList}
-use Rattle.ipc.proofs.Inverts.{and-left, and-right}
-use Rattle.ipc.proofs.Means.{endIf, items-mean}
+use Rattle.ipc.specs.Meaning.{isIdValue, every}
+use Rattle.ipc.specs.Writer.{endsAt, isIdList}
+use Rattle.ipc.proofs.meaning.Inverts.{and-left, and-right}
+use Rattle.ipc.proofs.meaning.Means.{endIf, items-mean}
 
 -- ---- a torrent ID is a value
 -- an integer begins with `i`
@@ -96,19 +96,19 @@ id-range : (z : ℤ) → within 1 largestId z ≡ true → InRange z
 id-range (pos n) e = let h : n ≤ largestId = leb-true n largestId (and-right (leb 1 n) (leb n largestId) e) in omega arith
 id-range (negsuc n) e = clash false e refl
 
-id-formed : (levels : ℕ) (v : Value) → isId v ≡ true → WellFormed Profile.Loose levels v
+id-formed : (levels : ℕ) (v : Value) → isIdValue v ≡ true → WellFormed Profile.Loose levels v
 id-formed zero (integer z) e = id-range z e
 id-formed (suc levels) (integer z) e = id-range z e
 id-formed levels (string text) e = clash false e refl
 id-formed levels (list vs) e = clash false e refl
 id-formed levels (dictionary es) e = clash false e refl
 
-ids-formed : (levels : ℕ) (vs : Values) → every isId vs ≡ true → All (WellFormed Profile.Loose levels) vs
+ids-formed : (levels : ℕ) (vs : Values) → every isIdValue vs ≡ true → All (WellFormed Profile.Loose levels) vs
 ids-formed levels no-value e = tt
-ids-formed levels (value v vs) e = (id-formed levels v (and-left (isId v) (every isId vs) e), ids-formed levels vs (and-right (isId v) (every isId vs) e))
+ids-formed levels (value v vs) e = (id-formed levels v (and-left (isIdValue v) (every isIdValue vs) e), ids-formed levels vs (and-right (isIdValue v) (every isIdValue vs) e))
 
 -- the level that a list takes is a variable here: a numeral would be written out
-pub id-list-formed : (levels : ℕ) (vs : Values) → every isId vs ≡ true → WellFormed Profile.Loose (suc levels) (list vs)
+pub id-list-formed : (levels : ℕ) (vs : Values) → every isIdValue vs ≡ true → WellFormed Profile.Loose (suc levels) (list vs)
 id-list-formed levels vs e = ids-formed levels vs e
 
 -- an end is one of items that pass the test
@@ -120,8 +120,8 @@ all-begins : (s x : List ℕ) → s ≡ x → Begins s 0 x (length s)
 all-begins s x e = record { rest = []; is = e ∙ sym (append-nil x); ends = omega (arith, ap length e) }
 
 -- the level that a list takes is a variable again
-each-id : (levels : ℕ) (s : List ℕ) (vs : Values) → WellFormed Profile.Loose (suc levels) (list vs) → Begins s 0 (encode (list vs)) (length s) → itemsEnd Items.Ids s 1 ≡ OptionalEnd.End (length s) → every isId vs ≡ true
-each-id levels s vs g b e = ended (every isId vs) (length s) (length s) (sym (items-mean Profile.Loose s levels Items.Ids vs 1 (length s) g (items-begin s 0 (length s) vs b)) ∙ e)
+each-id : (levels : ℕ) (s : List ℕ) (vs : Values) → WellFormed Profile.Loose (suc levels) (list vs) → Begins s 0 (encode (list vs)) (length s) → itemsEnd Items.Ids s 1 ≡ OptionalEnd.End (length s) → every isIdValue vs ≡ true
+each-id levels s vs g b e = ended (every isIdValue vs) (length s) (length s) (sym (items-mean Profile.Loose s levels Items.Ids vs 1 (length s) g (items-begin s 0 (length s) vs b)) ∙ e)
 
 ids-encoded : (s : List ℕ) → byteAt s 0 ≡ letterL → itemsEnd Items.Ids s 1 ≡ OptionalEnd.End (length s) → IdList s
 ids-encoded s first e =
@@ -155,7 +155,7 @@ list-id : (s : List ℕ) → IdList s → isIdList s ≡ true
 unfolding isIdList
 list-id s d =
     let b = all-begins s (encode (list (d .ids))) (d .is) in
-    let ends : itemsEnd Items.Ids s 1 ≡ endIf (every isId (d .ids)) (length s) = items-mean Profile.Loose s 0 Items.Ids (d .ids) 1 (length s) (ids-formed 0 (d .ids) (d .each)) (items-begin s 0 (length s) (d .ids) b) in
+    let ends : itemsEnd Items.Ids s 1 ≡ endIf (every isIdValue (d .ids)) (length s) = items-mean Profile.Loose s 0 Items.Ids (d .ids) 1 (length s) (ids-formed 0 (d .ids) (d .each)) (items-begin s 0 (length s) (d .ids) b) in
     rw (eq-eqb (byteAt s 0) letterL (list-first s (d .ids) b), ends, d .each, eq-eqb (length s) (length s) refl) refl
 
 pub id-list-exactly : IdListExactly

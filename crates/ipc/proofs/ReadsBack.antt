@@ -13,38 +13,38 @@ use lib.ListN.{length, getD, replicate, List·getD-eq-default, drop}
 use Rattle.bencode.specs.declared.profile.Profile.{Profile}
 use Rattle.bencode.specs.Bytes.{same, letterE, part as bytesFrom}
 use Rattle.bencode.specs.Depth.{largestDepth}
-use Rattle.bencode.specs.Integer.{InRange}
+use Rattle.bencode.specs.Integers.{InRange}
 use Rattle.bencode.specs.Key.{isUsed, keyFault}
 use Rattle.bencode.specs.Value.{Value, integer, string, list, Values, no-value, value, encodeString, encode, WellFormed}
-use Rattle.bencode.proofs.BeginsLaws.{part-begins}
-use Rattle.bencode.proofs.Order.{clash}
-use Rattle.bencode.proofs.Table.{at}
+use Rattle.bencode.proofs.sequences.BeginsLaws.{part-begins}
+use Rattle.bencode.proofs.sequences.Order.{clash}
+use Rattle.bencode.proofs.numerals.Table.{at}
 use Rattle.bencode.specs.Ascii.{ascii}
 use Rattle.ipc.specs.declared.format.Checked.{Checked}
 use Rattle.ipc.specs.declared.ids.OptionalTag.{OptionalTag}
 use Rattle.ipc.specs.declared.keys.Class.{Class}
 use Rattle.ipc.specs.declared.reading.Value.{Value as MessageValue}
 use Rattle.ipc.specs.declared.versions.OptionalVersions.{OptionalVersions}
-use Rattle.ipc.specs.declared.write.Given.{Given}
-use Rattle.ipc.specs.declared.write.Written.{Written}
+use Rattle.ipc.specs.declared.writer.Given.{Given}
+use Rattle.ipc.specs.declared.writer.Written.{Written}
 use Rattle.ipc.specs.Answer.{Answer, part, accepted, acceptedHandshake, contentOf}
-use Rattle.ipc.specs.Frame.{readFrame}
-use Rattle.ipc.specs.WriteHandshake.{handshakeValue, handshakePayload, rangeWritten, handshakeWritten}
+use Rattle.ipc.specs.Reader.{readFrame}
+use Rattle.ipc.specs.HandshakeWriter.{handshakeValue, handshakePayload, rangeWritten, handshakeWritten}
 use Rattle.ipc.specs.Header.{headerLength, largestPayload}
 use Rattle.ipc.specs.Hex.{hexHeader}
 use Rattle.ipc.specs.Ids.{largestTag, tagOf}
 use Rattle.ipc.specs.Keys.{keyText, Listed, listed, unlisted, numberFrom, keyNumber, classOf, isWritten}
 use Rattle.ipc.specs.Meaning.{wholeAt, judged, versionsAnswer, meaning}
 use Rattle.ipc.specs.Versions.{rangeOf, IsRange}
-use Rattle.ipc.specs.Write.{nothingFits, integerFits, bytesFit, valueFits, encodeGiven, encodeTag, payloadOf, frameOf, fitted, writeAnswer, messageFault}
+use Rattle.ipc.specs.Writer.{nothingFits, integerFits, bytesFit, valueFits, encodeGiven, encodeTag, payloadOf, frameOf, fitted, writeAnswer, messageFault}
 use Rattle.ipc.specs.Demands.{IdList, GivenFits, Named, ReadsBack, BufferReadsBack, HandshakeReadsBack}
 use Rattle.ipc.proofs.Accepts.{answers-meaning}
-use Rattle.ipc.proofs.HexLaws.{header-length, header-digits, from-header}
+use Rattle.ipc.proofs.headers.HexLaws.{header-length, header-digits, from-header}
 use Rattle.ipc.proofs.IdLists.{id-list-formed, id-list-exactly}
-use Rattle.ipc.proofs.Inverts.{spelling, untagged-text, tagged-text}
+use Rattle.ipc.proofs.meaning.Inverts.{spelling, untagged-text, tagged-text}
 use Rattle.ipc.proofs.WritesBack.{Stands, text-stands, stands-in, payload-again}
-use Rattle.ipc.proofs.OutcomeLaws.{frame-length}
-use Rattle.ipc.proofs.VersionLaws.{range-is, range-made}
+use Rattle.ipc.proofs.writing.WriteLaws.{frame-length}
+use Rattle.ipc.proofs.frames.VersionLaws.{range-is, range-made}
 
 -- ---- what a count says
 -- a payload that is written, in a frame of n bytes

@@ -4,8 +4,8 @@ use mathlib.Core.Path.{refl}
 use mathlib.Core.List.{flatten}
 use Rattle.bencode.specs.Numeral.{digits, numeralAt, decimal, decimalBefore}
 use Rattle.bencode.specs.Value.{encode}
-use Rattle.bencode.specs.String.{stringAt}
-use Rattle.bencode.specs.Integer.{integerAt, integerFrom}
+use Rattle.bencode.specs.Strings.{stringAt}
+use Rattle.bencode.specs.Integers.{integerAt, integerFrom}
 use Rattle.bencode.specs.Bytes.{same, less}
 use Rattle.bencode.specs.Key.{isUsed, isAbove, keyFault}
 use Rattle.bencode.specs.Scalar.{scalarAt}
@@ -23,10 +23,10 @@ use Rattle.ipc.specs.Format.{idEnd, torrentEnd, itemEnd, itemsEnd, listP
 use Rattle.ipc.specs.Message.{tailAt, messageReading}
 use Rattle.ipc.specs.Versions.{rangeOf}
 use Rattle.ipc.specs.Handshake.{rangeAt, dictionaryVersions, handshakeReading}
-use Rattle.ipc.specs.Frame.{payloadReading, lengthReading, frameReading, readFrame}
-use Rattle.ipc.specs.WriteHandshake.{handshakePayload}
+use Rattle.ipc.specs.Reader.{payloadReading, lengthReading, frameReading, readFrame}
+use Rattle.ipc.specs.HandshakeWriter.{handshakePayload}
 use Rattle.ipc.specs.Hex.{hexDigit, hexIn, hexHeader}
-use Rattle.ipc.specs.Write.{encodeGiven, encodeTag, payloadOf, frameOf}
+use Rattle.ipc.specs.Writer.{encodeGiven, encodeTag, payloadOf, frameOf}
 use Rattle.ipc.specs.Tries.{tries, FramesTried, FramesWritten}
 
 pub frames-tried : FramesTried

@@ -10,24 +10,24 @@ use lib.ListN.{length, getD, take}
 use lib.Seq.{take-at}
 use Rattle.bencode.specs.Numeral.{decimal, decimalBefore}
 use Rattle.bencode.specs.Value.{encode}
-use Rattle.ipc.specs.declared.write.Given.{Given}
-use Rattle.ipc.specs.declared.write.Written.{Written}
+use Rattle.ipc.specs.declared.writer.Given.{Given}
+use Rattle.ipc.specs.declared.writer.Written.{Written}
 use Rattle.ipc.specs.Answer.{Answer, message, integer, refused, accepted}
 use Rattle.bencode.specs.Ascii.{ascii}
-use Rattle.ipc.specs.Frame.{readFrame}
-use Rattle.ipc.specs.WriteHandshake.{handshakePayload, handshakeWritten}
+use Rattle.ipc.specs.Reader.{readFrame}
+use Rattle.ipc.specs.HandshakeWriter.{handshakePayload, handshakeWritten}
 use Rattle.ipc.specs.Header.{headerLength, largestPayload}
 use Rattle.ipc.specs.Hex.{hexIn, hexHeader}
 use Rattle.ipc.specs.Keys.{listed, classOf, isWritten}
 use Rattle.ipc.specs.Tries.{tries}
-use Rattle.ipc.specs.Write.{frameOf, fitted}
+use Rattle.ipc.specs.Writer.{frameOf, fitted}
 use Rattle.ipc.specs.Demands.{hexFrom, AcceptsExactlyFor, GivenFits, Writer, writer, WritesBackFor}
 use Rattle.ipc.specs.Versions.{rangeOf}
 use Rattle.ipc.specs.Worthless.{RefusingReaderFalls, ConstantReaderFalls, InventedCountFalls, oneMore, OneMoreFalls, HandshakeOneMoreFalls, RefusingWriterFalls}
 use Rattle.ipc.proofs.Accepts.{accepts-exactly, answers-by-row}
-use Rattle.ipc.proofs.HexLaws.{header-length, from-header}
-use Rattle.ipc.proofs.Inverts.{inverts}
-use Rattle.ipc.proofs.OutcomeLaws.{frame-length}
+use Rattle.ipc.proofs.headers.HexLaws.{header-length, from-header}
+use Rattle.ipc.proofs.meaning.Inverts.{inverts}
+use Rattle.ipc.proofs.writing.WriteLaws.{frame-length}
 use Rattle.ipc.proofs.ReadsBack.{reads-back, handshake-reads-back}
 use Rattle.ipc.proofs.Tried.{frames-tried}
 use Rattle.ipc.proofs.WritesBack.{writes-back}

@@ -13,28 +13,28 @@ use lib.Seq.{take-at, drop-at}
 use Rattle.bencode.specs.Bytes.{letterE, letterL, Begins}
 use Rattle.bencode.specs.Numeral.{decimal}
 use Rattle.bencode.specs.Value.{Value, integer, string, list, dictionary, Values, encodeString, encode}
-use Rattle.bencode.proofs.BeginsLaws.{part-begins}
+use Rattle.bencode.proofs.sequences.BeginsLaws.{part-begins}
 use Rattle.bencode.proofs.Lookups.{reads-string}
-use Rattle.bencode.proofs.Order.{clash}
-use Rattle.bencode.specs.Integer.{within}
+use Rattle.bencode.proofs.sequences.Order.{clash}
+use Rattle.bencode.specs.Integers.{within}
 use Rattle.ipc.specs.declared.format.Checked.{Checked}
 use Rattle.ipc.specs.declared.keys.Class.{Class}
 use Rattle.ipc.specs.declared.reading.Value.{Value as MessageValue}
-use Rattle.ipc.specs.declared.write.Given.{Given}
-use Rattle.ipc.specs.declared.write.Written.{Written}
+use Rattle.ipc.specs.declared.writer.Given.{Given}
+use Rattle.ipc.specs.declared.writer.Written.{Written}
 use Rattle.ipc.specs.Answer.{Answer, Content, accepted, contentOf}
 use Rattle.ipc.specs.Format.{largestPort}
 use Rattle.ipc.specs.Header.{headerLength, largestPayload}
 use Rattle.ipc.specs.Hex.{hexHeader, upper, upperHeader}
 use Rattle.ipc.specs.Ids.{largestTag}
 use Rattle.ipc.specs.Keys.{keyText, Listed, listed, unlisted, keyNumber, classOf, isWritten}
-use Rattle.ipc.specs.Meaning.{isId, every, wholeAt, asInteger, asText, asList, judged}
-use Rattle.ipc.specs.Write.{integerFits, valueFits, encodeGiven, encodeTag, payloadOf, frameOf, writeAnswer, messageFault}
+use Rattle.ipc.specs.Meaning.{isIdValue, every, wholeAt, asInteger, asText, asList, judged}
+use Rattle.ipc.specs.Writer.{integerFits, valueFits, encodeGiven, encodeTag, payloadOf, frameOf, writeAnswer, messageFault}
 use Rattle.ipc.specs.Demands.{HexDigits, hexFrom, Framed, givenOf, bytesOf, WritesBack}
 use Rattle.ipc.proofs.Accepts.{accepts-exactly}
-use Rattle.ipc.proofs.HexLaws.{header-from}
-use Rattle.ipc.proofs.OutcomeLaws.{fitted-count}
-use Rattle.ipc.proofs.Inverts.{key-named, written-listed, spelling, Meant, inverts}
+use Rattle.ipc.proofs.headers.HexLaws.{header-from}
+use Rattle.ipc.proofs.writing.WriteLaws.{fitted-count}
+use Rattle.ipc.proofs.meaning.Inverts.{key-named, written-listed, spelling, Meant, inverts}
 use Rattle.ipc.proofs.IdLists.{id-list-exactly}
 
 -- ---- keys that are written have no format of a list but that of torrent IDs
@@ -133,7 +133,7 @@ module _ (f : List ℕ) (at : ℕ) (x : Value) (h : MessageValue) where
       let s = text-stands f at text (subst (λ (y : Value). Stands f at y) p b) in
       rw (p, q) (record { fits = refl; same = ap encodeString s })
 
-  ids-again : Stands f at x → (vs : Values) → x ≡ list vs → every isId vs ≡ true → h ≡ wholeAt at (list vs) → Again f Class.IdList x (contentOf h)
+  ids-again : Stands f at x → (vs : Values) → x ≡ list vs → every isIdValue vs ≡ true → h ≡ wholeAt at (list vs) → Again f Class.IdList x (contentOf h)
   unfolding valueFits encodeGiven
   ids-again b vs p ids q =
       let c : Stands f at (list vs) = subst (λ (y : Value). Stands f at y) p b in
@@ -149,7 +149,7 @@ module _ (f : List ℕ) (at : ℕ) (x : Value) (h : MessageValue) where
   value-again Class.TextList w i b e = clash false w refl
   value-again Class.TorrentList w i b e = clash false w refl
   value-again Class.Port w i b e = let r = as-integer (within 0 largestPort) x h e in integer-again Class.Port (r .0) (r .2) (r .1) (r .3)
-  value-again Class.IdList w i b e = let r = as-list isId at x h e in ids-again b (r .0) (r .1) (r .2) (r .3)
+  value-again Class.IdList w i b e = let r = as-list isIdValue at x h e in ids-again b (r .0) (r .1) (r .2) (r .3)
 
 -- ---- where the value stands in the frame
 pub stands-in : (f header whole key y tail rest : List ℕ) → length header ≡ headerLength → f ≡ header ++ (whole ++ rest) → whole ≡ letterL ∷ (key ++ (y ++ tail))

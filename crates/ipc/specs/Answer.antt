@@ -1,4 +1,4 @@
--- The reader's answer, as document 01 has it ('What the reader says').
+-- To be believed. The reader's answer, as document 01 has it ('What the reader says').
 -- Assumes nothing.
 use Prim.Native.Nat.{ℕ}
 use lib.IntN.{ℤ}

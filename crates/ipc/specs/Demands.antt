@@ -1,5 +1,5 @@
--- What is proved of frames as a whole. Each statement is a type; its proof stands in proofs/ under the same name in lower case.
--- A name with For is the statement over any build, so that a wrong one can be refuted by it (Worthless).
+-- Statements of frames as a whole. Each is a type; its proof stands in proofs/ under the same name in lower case. A name with
+-- For is the statement over any build, so that a wrong one can be refuted by it (Worthless).
 -- Assumes nothing.
 use Prim.Native.Nat.{ℕ, _+_, _*_, _≤_, _<_}
 use mathlib.Core.Path.{_≡_}
@@ -12,20 +12,20 @@ use Rattle.bencode.specs.declared.fault.Walk.{Walk}
 use Rattle.bencode.specs.declared.profile.Profile.{Profile}
 use Rattle.bencode.specs.Bytes.{part as bytesFrom}
 use Rattle.bencode.specs.Depth.{largestDepth}
-use Rattle.bencode.specs.Integer.{InRange}
+use Rattle.bencode.specs.Integers.{InRange}
 use Rattle.bencode.specs.Value.{Value, list, Values, encode, WellFormed}
 use Rattle.bencode.specs.Walk.{payloadAt}
 use Rattle.ipc.specs.declared.keys.Class.{Class}
-use Rattle.ipc.specs.declared.write.Given.{Given}
-use Rattle.ipc.specs.declared.write.Written.{Written}
+use Rattle.ipc.specs.declared.writer.Given.{Given}
+use Rattle.ipc.specs.declared.writer.Written.{Written}
 use Rattle.ipc.specs.Answer.{Answer, Content, nothing, integer, text, part, versions, message, refused, accepted, acceptedHandshake}
 use Rattle.ipc.specs.Header.{headerLength, largestPayload, protocolPayload, hexValue}
-use Rattle.ipc.specs.Frame.{readFrame}
+use Rattle.ipc.specs.Reader.{readFrame}
 use Rattle.ipc.specs.Hex.{upperHeader}
 use Rattle.ipc.specs.Keys.{classOf, isWritten}
-use Rattle.ipc.specs.Meaning.{isId, every, meaning}
-use Rattle.ipc.specs.Write.{codeOf, countOf, isIdList, payloadOf, frameOf, writeAnswer, Outcome}
-use Rattle.ipc.specs.WriteHandshake.{handshakePayload, handshakeWritten}
+use Rattle.ipc.specs.Meaning.{isIdValue, every, meaning}
+use Rattle.ipc.specs.Writer.{writtenCode, writtenCount, isIdList, payloadOf, frameOf, writeAnswer, Leaves}
+use Rattle.ipc.specs.HandshakeWriter.{handshakePayload, handshakeWritten}
 
 -- bytes that are hex digits of either case
 pub data HexDigits : List ℕ → Type 0 where
@@ -102,7 +102,7 @@ AnswersByRow = AnswersByRowFor readFrame
 -- bytes that are the encoding of a list of torrent IDs
 pub record IdList (s : List ℕ) : Type 0 where
   pub ids : Values
-  pub each : every isId ids ≡ true
+  pub each : every isIdValue ids ≡ true
   pub is : s ≡ encode (list ids)
 
 -- a list of torrent IDs that is handed in is judged by the grammar, whatever its length
@@ -135,7 +135,7 @@ Named class frame Given.Bytes s c = (at : ℕ) × (c ≡ bytesNamed class at (le
 
 -- demand 1: a refusal has count 0 and leaves the lent buffer as it was
 abbrev pub RefusalKeeps : Type 0
-RefusalKeeps = (answer r : Written) (payload before after : List ℕ) → Outcome answer payload before r after → (codeOf r ≡ 0 → ⊥) → (countOf r ≡ 0) × (after ≡ before)
+RefusalKeeps = (answer r : Written) (payload before after : List ℕ) → Leaves answer payload before r after → (writtenCode r ≡ 0 → ⊥) → (writtenCount r ≡ 0) × (after ≡ before)
 
 -- a writer: what it answers to a key, a value, the bytes beside it and a tag, in a room, and the frame that it leaves
 pub record Writer : Type 0 where
@@ -157,7 +157,7 @@ ReadsBack = ReadsBackFor writer
 -- the same of the buffer that was lent
 abbrev pub BufferReadsBack : Type 0
 BufferReadsBack = (key tag n : ℕ) (given : Given) (s before after : List ℕ) → GivenFits given
-    → Outcome (writeAnswer key given s tag (length before)) (payloadOf key given s tag) before (Written.Count n) after
+    → Leaves (writeAnswer key given s tag (length before)) (payloadOf key given s tag) before (Written.Count n) after
     → (c : Content) × (readFrame after ≡ accepted n key tag c) × Named (classOf key) (frameOf (payloadOf key given s tag)) given s c
 
 -- a writer of handshakes: what it answers to a range in a room, and the frame that it leaves

@@ -1,16 +1,16 @@
--- The formats of values (document 01, 'The message').
+-- Pinned by `AnswersMeaning`. The formats of values (document 01, 'The message'), as they are checked in a payload.
 -- Assumes nothing.
 use Prim.Native.Nat.{ℕ, _+_, _-_}
 use mathlib.Core.Bool.{Bool, true, cond}
 use mathlib.Core.List.{List}
 use lib.Dec.{eqb}
 use lib.IntN.{ℤ}
-use Rattle.bencode.specs.declared.integer.Number.{Number}
-use Rattle.bencode.specs.declared.string.Text.{Text}
+use Rattle.bencode.specs.declared.integers.Number.{Number}
+use Rattle.bencode.specs.declared.strings.Text.{Text}
 use Rattle.bencode.specs.Bytes.{letterD, letterL, byteAt}
-use Rattle.bencode.specs.Integer.{integerAt, within}
+use Rattle.bencode.specs.Integers.{integerAt, within}
 use Rattle.bencode.specs.Loop.{Step, next, done, itemsFrom}
-use Rattle.bencode.specs.String.{stringAt}
+use Rattle.bencode.specs.Strings.{stringAt}
 use Rattle.bencode.specs.Skip.{skipRest}
 use Rattle.bencode.specs.Field.{fieldOf, ifInteger}
 use Rattle.bencode.specs.Ascii.{ascii}

@@ -1,4 +1,4 @@
--- Handshakes: a dictionary with a range of versions (document 01, 'The message').
+-- Pinned by `AnswersMeaning`. Handshakes: a dictionary with a range of versions (document 01, 'The message').
 -- Assumes nothing.
 use Prim.Native.Nat.{ℕ, _+_}
 use mathlib.Core.List.{List}

@@ -1,4 +1,5 @@
--- The header of a frame: 8 hex digits of either case for the payload's length (document 01, 'The frame').
+-- Limits and hex digits are to be believed; reading is pinned by `AnswersByRow`. The header of a frame: 8 hex digits of either
+-- case for the payload's length (document 01, 'The frame').
 -- Assumes nothing.
 use mathlib.Core.Bool.{true, false, cond}
 use mathlib.Core.List.{List, [], _∷_}
@@ -37,6 +38,26 @@ headerIn (suc k) i v (c ∷ cs) = elim (ltb (hexValue c) 16) [ true ↦ headerIn
 unfoldable pub readHeader : List ℕ → Header
 readHeader s = headerIn headerLength 0 0 s
 
+-- document 01's code and offset for what reading a header finds; 0 and 0 for a length
+abbrev pub headerCode : Header → ℕ
+headerCode (Header.Length n) = 0
+headerCode Header.Short = 1
+headerCode (Header.NoDigit at) = 2
+
+abbrev pub headerOffset : Header → ℕ
+headerOffset (Header.Length n) = 0
+headerOffset Header.Short = 0
+headerOffset (Header.NoDigit at) = at
+
 -- a payload's length against the protocol's limit and this library's
 unfoldable pub sized : ℕ → Sized
 sized n = cond (ltb protocolPayload n) Sized.OverProtocol (cond (ltb largestPayload n) Sized.OverLimit (Sized.Length (record { 0 = n })))
+
+-- document 01's code for it: 3 over the protocol's limit, 4 over this library's, and 0 for neither
+abbrev pub sizeCode : Sized → ℕ
+sizeCode (Sized.Length n) = 0
+sizeCode Sized.OverProtocol = 3
+sizeCode Sized.OverLimit = 4
+
+abbrev pub lengthCode : ℕ → ℕ
+lengthCode n = cond (ltb protocolPayload n) 3 (cond (ltb largestPayload n) 4 0)

@@ -1,4 +1,4 @@
--- Hex digits as the writer writes them: in upper case.
+-- Pinned by `ReadsBack` and `WritesBack`; upper case is to be believed. Hex digits as the writer writes them.
 -- Assumes nothing.
 use Prim.Native.Nat.{ℕ, zero, suc, _+_, _-_, _/_, _%_, _^_}
 use mathlib.Core.Bool.{cond}

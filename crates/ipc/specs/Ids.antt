@@ -1,9 +1,9 @@
--- Tags and torrent IDs (document 01, 'The message': 1 to 2,147,483,647, and never taken for each other).
+-- To be believed. Tags and torrent IDs (document 01, 'The message': 1 to 2,147,483,647, and never taken for each other).
 -- Assumes nothing.
 use Prim.Native.Nat.{ℕ}
 use mathlib.Core.Bool.{cond}
 use lib.IntN.{ℤ, natAbs}
-use Rattle.bencode.specs.Integer.{within}
+use Rattle.bencode.specs.Integers.{within}
 use Rattle.ipc.specs.declared.ids.OptionalTag.{OptionalTag}
 use Rattle.ipc.specs.declared.ids.OptionalId.{OptionalId}
 

@@ -1,4 +1,5 @@
--- The twenty listed keys, with their numbers, the formats of their values and whether they are written (document 01, 'The message').
+-- To be believed. The twenty listed keys, with their numbers, the formats of their values and whether they are written (document
+-- 01, 'The message').
 -- Assumes nothing.
 use Prim.Native.Nat.{ℕ, zero, suc, _-_}
 use Prim.Native.String.{String}

@@ -7,10 +7,10 @@ pub mod Format
 pub mod Message
 pub mod Versions
 pub mod Handshake
-pub mod Frame
+pub mod Reader
 pub mod Hex
-pub mod Write
-pub mod WriteHandshake
+pub mod Writer
+pub mod HandshakeWriter
 pub mod Meaning
 pub mod Tries
 pub mod Demands

@@ -1,4 +1,4 @@
--- What a bencoded value means: the answer to it, as document 01 has it, with no word of how it is read.
+-- To be believed. What a bencoded value means: the answer to it, as document 01 has it, with no word of how it is read.
 -- Assumes nothing.
 use Prim.Native.Nat.{ℕ, _+_, _-_}
 use mathlib.Core.Bool.{Bool, true, false, cond, _&&_}
@@ -7,7 +7,7 @@ use lib.IntN.{ℤ}
 use lib.ListN.{length}
 use Rattle.bencode.specs.Value.{Value, integer, string, list, dictionary, Values, no-value, value, encodeString, encode, Found, found, missing, lookup, under, foundInteger}
 use Rattle.bencode.specs.Ascii.{ascii}
-use Rattle.bencode.specs.Integer.{within}
+use Rattle.bencode.specs.Integers.{within}
 use Rattle.ipc.specs.declared.keys.Class.{Class}
 use Rattle.ipc.specs.declared.ids.OptionalTag.{OptionalTag}
 use Rattle.ipc.specs.declared.format.Checked.{Checked}
@@ -21,8 +21,8 @@ use Rattle.ipc.specs.Format.{largestPort}
 use Rattle.ipc.specs.Versions.{rangeOf}
 
 -- a torrent ID
-abbrev pub isId : Value → Bool
-isId v = foundInteger false (within 1 largestId) (found v)
+abbrev pub isIdValue : Value → Bool
+isIdValue v = foundInteger false (within 1 largestId) (found v)
 
 abbrev pub isText : Value → Bool
 isText (integer z) = false
@@ -71,7 +71,7 @@ judged Class.Integer at x = asInteger (λ z. true) x
 judged Class.TextList at x = asList isText at x
 judged Class.TorrentList at x = asList isTorrent at x
 judged Class.Port at x = asInteger (within 0 largestPort) x
-judged Class.IdList at x = asList isId at x
+judged Class.IdList at x = asList isIdValue at x
 
 abbrev pub answered : ℕ → ℕ → OptionalTag → Checked → Answer
 answered used k tag (Checked.Value v) = accepted used k (tagNumber tag) (contentOf v)

@@ -1,16 +1,16 @@
--- Messages: a list of a key, a value and, if it has one, a tag (document 01, 'The message').
+-- Pinned by `AnswersMeaning`. Messages: a list of a key, a value and, if it has one, a tag (document 01, 'The message').
 -- Assumes nothing.
 use Prim.Native.Nat.{ℕ, _+_}
 use mathlib.Core.Bool.{cond}
 use mathlib.Core.List.{List}
 use lib.Dec.{eqb}
 use lib.ListN.{length}
-use Rattle.bencode.specs.declared.integer.Number.{Number}
+use Rattle.bencode.specs.declared.integers.Number.{Number}
 use Rattle.bencode.specs.declared.item.Item.{Item}
-use Rattle.bencode.specs.declared.string.Text.{Text}
+use Rattle.bencode.specs.declared.strings.Text.{Text}
 use Rattle.bencode.specs.Bytes.{letterE, byteAt, part}
-use Rattle.bencode.specs.Integer.{integerAt}
-use Rattle.bencode.specs.String.{stringAt}
+use Rattle.bencode.specs.Integers.{integerAt}
+use Rattle.bencode.specs.Strings.{stringAt}
 use Rattle.bencode.specs.Item.{itemAt}
 use Rattle.ipc.specs.declared.ids.OptionalTag.{OptionalTag}
 use Rattle.ipc.specs.declared.message.Tail.{Tail}

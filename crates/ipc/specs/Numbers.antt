@@ -1,6 +1,7 @@
--- The reader's answer as numbers. What an answer does not name is 0.
+-- To be believed; `NoKindRefused` says what a kind is worth. The reader's answer as numbers. What an answer does not name is 0.
 -- Assumes nothing.
 use Prim.Native.Nat.{ℕ}
+use mathlib.Core.Path.{_≡_}
 use mathlib.Core.Bool.{cond}
 use lib.Dec.{eqb}
 use lib.IntN.{ℤ, pos}
@@ -42,3 +43,7 @@ numbersOf a =
       consumed = a .consumed;
       value = valueNumbers (a .value);
     }
+
+-- an answer that has a kind is accepted: a 22 is never taken for a message
+abbrev pub NoKindRefused : Type 0
+NoKindRefused = (a : Answer) → (a .code ≡ 0 → ⊥) → numbersOf a .kind ≡ 0

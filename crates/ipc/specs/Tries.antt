@@ -1,15 +1,16 @@
--- Document 01's frames to try that are marked P, in one table with a single statement, and three frames as they are written.
+-- Statements that antt computes: document 01's frames to try that are marked P, in one table, and three frames as they are
+-- written.
 -- Assumes nothing.
 use Prim.Native.String.{String}
 use lib.IntN.{pos}
 use mathlib.Core.Path.{_≡_}
 use mathlib.Core.List.{List, [], _∷_, map}
-use Rattle.ipc.specs.declared.write.Given.{Given}
+use Rattle.ipc.specs.declared.writer.Given.{Given}
 use Rattle.ipc.specs.Answer.{Answer, integer, part, refused, accepted, acceptedHandshake, offFormat}
 use Rattle.bencode.specs.Ascii.{ascii}
-use Rattle.ipc.specs.Frame.{readFrame}
-use Rattle.ipc.specs.WriteHandshake.{handshakePayload}
-use Rattle.ipc.specs.Write.{payloadOf, frameOf}
+use Rattle.ipc.specs.Reader.{readFrame}
+use Rattle.ipc.specs.HandshakeWriter.{handshakePayload}
+use Rattle.ipc.specs.Writer.{payloadOf, frameOf}
 
 -- a frame and its answer
 pub record Try : Type 0 where

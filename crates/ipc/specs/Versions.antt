@@ -1,4 +1,4 @@
--- Ranges of versions, and the version that two of them agree on (document 01, 'The message').
+-- Ranges are to be believed; the agreed version is pinned by `AgreesOnLargest`. Ranges of versions (document 01, 'The message').
 -- Assumes nothing.
 use Prim.Native.Nat.{ℕ, _≤_, min, max}
 use mathlib.Core.Path.{_≡_}

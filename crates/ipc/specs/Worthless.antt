@@ -1,15 +1,15 @@
--- Worthless builds fall by the demands themselves (document 01, 'What each result must determine'). The proofs stand in proofs/.
+-- Statements: worthless builds fall by the demands themselves (document 01, 'What each result must determine').
 -- Assumes nothing.
 use Prim.Native.Nat.{ℕ, _+_, _≤_}
 use mathlib.Core.Path.{_≡_}
 use mathlib.Core.List.{List}
 use lib.ListN.{length}
-use Rattle.ipc.specs.declared.write.Given.{Given}
-use Rattle.ipc.specs.declared.write.Written.{Written}
+use Rattle.ipc.specs.declared.writer.Given.{Given}
+use Rattle.ipc.specs.declared.writer.Written.{Written}
 use Rattle.ipc.specs.Answer.{Answer}
 use Rattle.ipc.specs.Header.{largestPayload}
-use Rattle.ipc.specs.Write.{frameOf}
-use Rattle.ipc.specs.WriteHandshake.{handshakeWritten}
+use Rattle.ipc.specs.Writer.{frameOf}
+use Rattle.ipc.specs.HandshakeWriter.{handshakeWritten}
 use Rattle.ipc.specs.Demands.{AcceptsExactlyFor, AnswersByRowFor, GivenFits, Writer, writer, ReadsBackFor, handshakeWriter, HandshakeReadsBackFor, WritesBackFor}
 
 -- a reader that refuses always, with whatever numbers, falls by demand 1, and by demand 2

@@ -2,7 +2,7 @@
 ghost use mathlib.Core.Path.{_≡_};
 ghost use lib.Dec.{leb};
 ghost use Rattle.ipc.specs.Ids.{largestTag};
-ghost use Rattle.ipc.specs.Write.{isIdList, nothingFits, integerFits, bytesFit, valueFits};
+ghost use Rattle.ipc.specs.Writer.{isIdList, nothingFits, integerFits, bytesFit, valueFits};
 use super::format::Items;
 use super::format::LARGEST_PORT;
 use super::format::OptionalEnd;
@@ -11,8 +11,8 @@ use super::format::items_end;
 use super::ids::OptionalTag;
 use super::ids::Tag;
 use super::keys::Class;
-use super::write::Given;
-use bencode::bytes::byte_at;
+use super::writer::Given;
+use bencode::byte_at;
 
 // Are bytes exactly one list of torrent IDs.
 fn is_id_list(s: &[u8]) -> bool

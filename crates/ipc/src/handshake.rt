@@ -8,8 +8,8 @@ use super::header::HEADER_LENGTH;
 use super::reading::Reading;
 use super::versions::OptionalVersions;
 use super::versions::Versions;
-use bencode::field::Field;
-use bencode::field::field_of;
+use bencode::Field;
+use bencode::field_of;
 
 // The versions from `min` to `max` of the dictionary whose entries start at an offset.
 fn range_at(p: &[u8], from: usize) -> OptionalVersions

@@ -1,6 +1,6 @@
 // The header of a frame: 8 hex digits of either case for the payload's length.
 ghost use mathlib.Core.Path.{_≡_};
-ghost use Rattle.ipc.specs.Header.{hexValue, readHeader, sized};
+ghost use Rattle.ipc.specs.Header.{hexValue, readHeader, headerCode, headerOffset, sized, sizeCode, lengthCode};
 
 // What reading a header finds: the number, the offset of a byte that is no hex digit, or too few bytes.
 pub enum Header {
@@ -30,6 +30,7 @@ impl PayloadLength {
 
     pub fn new(n: u32) -> Sized
         ensures { λ r. ⌜ r ≡ sized n ⌝ }
+        ensures { λ r. ⌜ sizeCode r ≡ lengthCode n ⌝ }
     {
         if PayloadLength::PROTOCOL < n {
             return Sized::OverProtocol;
@@ -81,6 +82,7 @@ fn hex_value(c: u8) -> u32
 // Reads the 8 hex digits at the front.
 pub fn read_header(s: &[u8]) -> Header
     ensures { λ r. ⌜ r ≡ readHeader (now (s .entry)) ⌝ }
+    ensures { λ r. ⌜ (headerCode r ≡ headerCode (readHeader (now (s .entry)))) × (headerOffset r ≡ headerOffset (readHeader (now (s .entry)))) ⌝ }
 {
     let mut value: u32 = 0;
     let mut i: usize = 0;

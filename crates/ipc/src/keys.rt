@@ -6,7 +6,7 @@ ghost use Rattle.bencode.specs.Put.{Put};
 ghost use Rattle.bencode.specs.Value.{encodeString};
 ghost use Rattle.bencode.specs.Bytes.{same};
 ghost use Rattle.ipc.specs.Keys.{keyCount, rowOf, rowAt, nameAt, listedAt, keyText, keyNumber, classOf, isWritten};
-use bencode::put::put_string;
+use bencode::put_string;
 
 // The formats of values. A key that is not listed takes any value.
 pub enum Class {
@@ -180,7 +180,7 @@ fn is_key(k: usize, text: &[u8]) -> bool
     let row = row_at(k);
     let n = row.length;
     let name = row.text;
-    bencode::bytes::same(&name[..n], text)
+    bencode::same(&name[..n], text)
 }
 
 // The number of a key, and 0 for one that is not listed.

@@ -5,13 +5,13 @@ ghost use lib.ListN.{length};
 ghost use Rattle.bencode.specs.Value.{encodeString};
 ghost use Rattle.ipc.specs.Header.{largestPayload};
 ghost use Rattle.ipc.specs.Keys.{keyText};
-ghost use Rattle.ipc.specs.Write.{encodeBytes, encodeGiven, encodeTag};
+ghost use Rattle.ipc.specs.Writer.{encodeBytes, encodeGiven, encodeTag};
 use super::header::PayloadLength;
 use super::keys::Class;
 use super::keys::text_length;
-use super::write::Given;
-use bencode::put::integer_length;
-use bencode::put::string_head;
+use super::writer::Given;
+use bencode::integer_length;
+use bencode::string_head;
 
 // The bytes of `0:`.
 const EMPTY_STRING: usize = 2;

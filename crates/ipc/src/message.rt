@@ -13,13 +13,13 @@ use super::keys::class_of;
 use super::keys::key_number;
 use super::reading::Message;
 use super::reading::Reading;
-use bencode::bytes::byte_at;
-use bencode::integer::Number;
-use bencode::integer::integer;
-use bencode::item::Item;
-use bencode::item::item_at;
-use bencode::string::Text;
-use bencode::string::string;
+use bencode::Item;
+use bencode::Number;
+use bencode::Text;
+use bencode::byte_at;
+use bencode::integer;
+use bencode::item_at;
+use bencode::string;
 
 // What stands after a message's value: a tag or none, and then the list's end; or something else.
 pub enum Tail {

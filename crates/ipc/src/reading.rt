@@ -33,7 +33,7 @@ pub enum Reading {
     // The payload is longer than this library takes.
     OverLimit,
     // The payload is not one bencoded value.
-    Payload(bencode::fault::Fault),
+    Payload(bencode::Fault),
     // Neither a message nor a dictionary.
     NoMessage,
     // A dictionary that is no handshake.

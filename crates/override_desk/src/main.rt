@@ -1,10 +1,10 @@
 // Reads a strip from standard input and runs it.
 use libc::STDERR_FILENO;
 use libc::STDIN_FILENO;
-use strip::LONGEST;
+use strip::LONGEST_STRIP;
 
 // One byte more than a strip may have, so that a longer one is seen to be too long.
-const ROOM: usize = LONGEST + 1;
+const ROOM: usize = LONGEST_STRIP + 1;
 
 // Did reading stop before the input's end, where a read answers 0. A failure may be over by now, and a byte be there.
 fn read_failed() -> bool {

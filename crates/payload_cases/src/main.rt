@@ -1,7 +1,7 @@
 // Walks the payloads of a stream of cases and prints a line for each: 0 and the payload's length, or the fault's code
 // and offset. Operation `l` walks in the loose profile, `s` in the strict one.
-use bencode::fault::Walk;
-use bencode::profile::Profile;
+use bencode::Profile;
+use bencode::Walk;
 use cases::print;
 use cases::print_number;
 
@@ -13,7 +13,7 @@ fn print_line(code: u8, offset: usize) {
 }
 
 fn answer(payload: &[u8], profile: Profile) {
-    match bencode::walk::payload(payload, profile) {
+    match bencode::payload(payload, profile) {
         Walk::End(end) => print_line(0, end),
         Walk::Fault(f) => print_line(f.code, f.offset),
     }

@@ -11,7 +11,7 @@ use lib.ListN.{length}
 use Rattle.bencode.specs.Bytes.{byteAt}
 use Rattle.strip.specs.declared.record.Record.{Record}
 use Rattle.strip.specs.declared.record.Decoded.{Decoded}
-use Rattle.strip.specs.Record.{bodyLength, mayStand, callKind, callOf, watchOf, bodyAt, faultAt, placedAt, endAt, wholeAt, longest, recordAt}
+use Rattle.strip.specs.Record.{bodyLength, mayStand, callKind, callOf, watchOf, bodyAt, faultAt, placedAt, endAt, wholeAt, longestStrip, recordAt}
 use Rattle.strip.specs.Demands.{HasKind, KindNamed}
 
 -- a test is true or false, and the case has the equation
@@ -94,4 +94,4 @@ pub kind-named : KindNamed
 unfolding recordAt
 kind-named s at called =
     let P : Decoded → Type 0 = λ d. HasKind (d .found) (byteAt s at) in
-    cases P (leb (length s) longest) (λ e. cases P (leb (length s) at) (λ f. end-kind at (byteAt s at)) (λ f. whole-kind s at called)) (λ e. fault-kind longest (byteAt s at))
+    cases P (leb (length s) longestStrip) (λ e. cases P (leb (length s) at) (λ f. end-kind at (byteAt s at)) (λ f. whole-kind s at called)) (λ e. fault-kind longestStrip (byteAt s at))

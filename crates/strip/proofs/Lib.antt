@@ -1,12 +1,7 @@
-pub mod NumberLaws
-pub mod RecordLaws
-pub mod GatherLaws
-pub mod LineLaws
-pub mod AnswerLaws
-pub mod RunLaws
+pub mod records
+pub mod printing
+pub mod running
 pub mod KindNamed
-pub mod Forward
-pub mod StepsLeft
 pub mod PrintsWhole
 pub mod OverLong
 pub mod StripsTried

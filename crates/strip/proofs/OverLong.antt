@@ -5,7 +5,7 @@ use mathlib.Core.Bool.{false}
 use Rattle.strip.specs.Record.{faultAt}
 use Rattle.strip.specs.Printed.{recordsFrom, recordsOf, printedFrom, printed}
 use Rattle.strip.specs.Demands.{OverLong}
-use Rattle.strip.proofs.RecordLaws.{record-long}
+use Rattle.strip.proofs.records.RecordLaws.{record-long}
 
 pub over-long : OverLong
 unfolding printed recordsOf recordsFrom printedFrom faultAt

@@ -10,8 +10,8 @@ use lib.Dec.{eqb}
 use lib.ListN.{length, drop}
 use lib.Seq.{take-append-seam}
 use Rattle.desk.specs.declared.watch.Watch.{Watch}
-use Rattle.desk.specs.declared.calls.Call.{Call}
-use Rattle.desk.specs.declared.opening.Opened.{Opened}
+use Rattle.desk.specs.declared.call.Call.{Call}
+use Rattle.desk.specs.declared.done.Opened.{Opened}
 use Rattle.desk.specs.Opening.{opening}
 use Rattle.strip.specs.declared.record.Record.{Record}
 use Rattle.strip.specs.declared.record.Decoded.{Decoded}
@@ -23,10 +23,10 @@ use Rattle.strip.specs.Line.{openText, faultText, callText, blank, textO
 use Rattle.strip.specs.Printed.{Records, call, end, followed, recordsFrom, recordsOf, printedOpen, printedOpening, printedFrom, printed}
 use Rattle.strip.specs.Run.{begun, withLimits, withWatch, withDesk, ended, printing, silent, opened, performed, faulted, taken, stepped, printedBy}
 use Rattle.strip.specs.Demands.{PrintsWhole}
-use Rattle.strip.proofs.GatherLaws.{Gathers, gathers-none, gathers-more, gathers-opening}
-use Rattle.strip.proofs.RunLaws.{call-open, call-shut, end-open, end-shut, opened-is}
-use Rattle.strip.proofs.Forward.{Forward, forward, Meets, again}
-use Rattle.strip.proofs.StepsLeft.{stepsLeft, some-left, step-falls, over-after}
+use Rattle.strip.proofs.records.GatherLaws.{Gathers, gathers-none, gathers-more, gathers-opening}
+use Rattle.strip.proofs.running.RunLaws.{call-open, call-shut, end-open, end-shut, opened-is}
+use Rattle.strip.proofs.records.Forward.{Forward, forward, Meets, again}
+use Rattle.strip.proofs.running.StepsLeft.{stepsLeft, some-left, step-falls, over-after}
 
 -- ---- what steps print
 text-bytes : (t : List ℕ) → textBytes (textOf t) ≡ t

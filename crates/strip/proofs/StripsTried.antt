@@ -8,9 +8,9 @@ use Rattle.bencode.specs.Ascii.{ascii}
 use Rattle.ipc.specs.Header.{hexValue}
 use Rattle.ipc.specs.Hex.{hexIn, hexHeader, hexDigit}
 use Rattle.ipc.specs.Keys.{listed, classOf, keyText}
-use Rattle.ipc.specs.Write.{encodeGiven, encodeTag, payloadOf, frameOf}
+use Rattle.ipc.specs.Writer.{encodeGiven, encodeTag, payloadOf, frameOf}
 use Rattle.desk.specs.Limit.{isLimit}
-use Rattle.desk.specs.Watch.{isId, places, unused, has, place, fault, filtered}
+use Rattle.desk.specs.Watch.{isId, places, unused, has, place, listFault, filtered}
 use Rattle.desk.specs.Record.{limitsSound, listSound, sound, openedWith, withDown, withOverride}
 use Rattle.desk.specs.Opening.{openCode, refusedOpening, opening}
 use Rattle.desk.specs.Command.{values, idList, messageFrame, commandFrame, framesOf, listing}
@@ -25,5 +25,5 @@ use Rattle.strip.specs.Printed.{recordsFrom, recordsOf, printedOpen, pri
 use Rattle.strip.specs.Tries.{hexBytes, lines, tries, StripsTried}
 
 pub strips-tried : StripsTried
-unfolding tries hexBytes hexValue lines faultAt printed recordsOf recordsFrom printedFrom printedOpening printedOpen callText framesText callLine wordText answer recordAt endAt wholeAt bodyAt watchOf callOf mayStand bodyLength signed numberAt outcome delivered framed decided plan deskAfter commandsOf callFault clearCommands raiseCommands listing framesOf commandFrame messageFrame idList values opening openCode refusedOpening withOverride withDown openedWith sound listSound limitsSound filtered fault place has unused places isId isLimit frameOf payloadOf encodeTag encodeGiven keyText classOf listed hexDigit hexHeader hexIn ascii encode decimalBefore decimal flatten
+unfolding tries hexBytes hexValue lines faultAt printed recordsOf recordsFrom printedFrom printedOpening printedOpen callText framesText callLine wordText answer recordAt endAt wholeAt bodyAt watchOf callOf mayStand bodyLength signed numberAt outcome delivered framed decided plan deskAfter commandsOf callFault clearCommands raiseCommands listing framesOf commandFrame messageFrame idList values opening openCode refusedOpening withOverride withDown openedWith sound listSound limitsSound filtered listFault place has unused places isId isLimit frameOf payloadOf encodeTag encodeGiven keyText classOf listed hexDigit hexHeader hexIn ascii encode decimalBefore decimal flatten
 strips-tried = refl

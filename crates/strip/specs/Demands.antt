@@ -1,4 +1,4 @@
--- What is proved of strips as a whole. Each statement is a type; its proof stands in proofs/ under the same name in lower case.
+-- Statements of strips as a whole. Each is a type; its proof stands in proofs/ under the same name in lower case.
 -- Assumes nothing.
 use Prim.Native.Nat.{ℕ, _+_, _<_}
 use mathlib.Core.Path.{_≡_}
@@ -7,7 +7,7 @@ use mathlib.Core.List.{List}
 use lib.ListN.{length}
 use Rattle.bencode.specs.Bytes.{byteAt}
 use Rattle.strip.specs.declared.record.Record.{Record}
-use Rattle.strip.specs.Record.{callKind, longest, recordAt}
+use Rattle.strip.specs.Record.{callKind, longestStrip, recordAt}
 use Rattle.strip.specs.Line.{faultText}
 use Rattle.strip.specs.Printed.{printed}
 use Rattle.strip.specs.Run.{begun, runAfter, printedBy}
@@ -30,4 +30,4 @@ PrintsWhole = (s : List ℕ) → let n = length s + 2 in (runAfter n s begun .ov
 
 -- over 16,384 bytes only `strip fault 16384` is printed
 abbrev pub OverLong : Type 0
-OverLong = (s : List ℕ) → longest < length s → printed s ≡ faultText longest
+OverLong = (s : List ℕ) → longestStrip < length s → printed s ≡ faultText longestStrip

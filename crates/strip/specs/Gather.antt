@@ -1,4 +1,5 @@
--- The watch records of a strip, one after the other, as the desk is opened with them (over 32 are 35 there, and no strip's fault).
+-- Pinned by `PrintsWhole`. The watch records of a strip, one after the other, as the desk is opened with them (over 32 are 35
+-- there, and no strip's fault).
 -- Assumes nothing.
 use Prim.Native.Nat.{_+_}
 use mathlib.Core.Bool.{cond}

@@ -1,11 +1,12 @@
--- The lines that a run prints (document 01, 'The strip and its program').
+-- To be believed. The lines that a run prints (document 01, 'The strip and its program').
 -- Assumes nothing.
-use Prim.Native.Nat.{ℕ}
+use Prim.Native.Nat.{ℕ, _+_}
 use mathlib.Core.List.{List, [], _∷_, _++_, flatten}
 use lib.ListN.{length, take, drop, replicate}
 use Rattle.bencode.specs.Numeral.{decimal}
 use Rattle.bencode.specs.Ascii.{ascii}
-use Rattle.strip.specs.declared.text.Text.{Text}
+use Rattle.desk.specs.Command.{longestFrames}
+use Rattle.strip.specs.declared.output.Output.{Output}
 
 abbrev pub space : List ℕ
 space = 32 ∷ []
@@ -38,13 +39,23 @@ framesText (b ∷ bs) = flatten ((b ∷ bs) ∷ newline ∷ [])
 unfoldable pub callText : ℕ → ℕ → List ℕ → List ℕ
 callText kind code bytes = callLine kind code (length bytes) ++ framesText bytes
 
--- ---- a text at the front of its 528 bytes, and how many it has
-abbrev pub blank : List ℕ
-blank = replicate 528 0
+-- ---- a text at the front of its bytes, and how many it has
+-- a word before a number, and a line, are no longer; the bytes have room for a line and a call's longest frames with a newline
+abbrev pub longestWord : ℕ
+longestWord = 16
 
-unfoldable pub textOf : List ℕ → Text
+abbrev pub longestLine : ℕ
+longestLine = 48
+
+abbrev pub outputRoom : ℕ
+outputRoom = longestLine + longestFrames + 1
+
+abbrev pub blank : List ℕ
+blank = replicate outputRoom 0
+
+unfoldable pub textOf : List ℕ → Output
 textOf text = record { bytes = text ++ drop (length text) blank; length = length text }
 
 -- the bytes of a text
-unfoldable pub textBytes : Text → List ℕ
+unfoldable pub textBytes : Output → List ℕ
 textBytes t = take (t .length) (t .bytes)

@@ -1,4 +1,4 @@
--- The numbers of a strip (document 01, 'The strip and its program': little-endian, limits in two's complement).
+-- To be believed. The numbers of a strip (document 01, 'The strip and its program': little-endian, limits in two's complement).
 -- Assumes nothing.
 use Prim.Native.Nat.{ℕ, _+_, _-_, _*_}
 use mathlib.Core.Bool.{cond}

@@ -1,4 +1,4 @@
--- What override-desk prints for a strip (document 01, 'The strip and its program').
+-- To be believed. What override-desk prints for a strip (document 01, 'The strip and its program').
 -- Assumes nothing.
 use Prim.Native.Nat.{ℕ, zero, suc}
 use mathlib.Core.Bool.{Bool, true, false, cond}
@@ -7,7 +7,7 @@ use lib.Dec.{eqb}
 use lib.IntN.{ℤ, pos}
 use lib.ListN.{length}
 use Rattle.desk.specs.declared.watch.Watch.{Watch}
-use Rattle.desk.specs.declared.calls.Call.{Call}
+use Rattle.desk.specs.declared.call.Call.{Call}
 use Rattle.desk.specs.declared.record.Desk.{Desk}
 use Rattle.desk.specs.Opening.{opening}
 use Rattle.strip.specs.declared.record.Record.{Record}

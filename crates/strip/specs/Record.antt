@@ -1,4 +1,5 @@
--- The records of a strip (document 01, 'The strip and its program'): one byte of kind, then a body whose length the kind fixes.
+-- To be believed. The records of a strip (document 01, 'The strip and its program'): one byte of kind, then a body whose length
+-- the kind fixes.
 -- Assumes nothing.
 use Prim.Native.Nat.{ℕ, _+_}
 use mathlib.Core.Bool.{Bool, false, cond, not}
@@ -6,7 +7,7 @@ use mathlib.Core.List.{List}
 use lib.Dec.{eqb, leb, ltb}
 use lib.ListN.{length}
 use Rattle.bencode.specs.Bytes.{byteAt}
-use Rattle.desk.specs.declared.calls.Call.{Call}
+use Rattle.desk.specs.declared.call.Call.{Call}
 use Rattle.strip.specs.declared.record.Record.{Record}
 use Rattle.strip.specs.declared.record.Decoded.{Decoded}
 use Rattle.strip.specs.Number.{numberAt, limitAt}
@@ -74,9 +75,9 @@ wholeAt s at called =
     (faultAt at)
 
 -- the most bytes of a strip
-abbrev pub longest : ℕ
-longest = 16384
+abbrev pub longestStrip : ℕ
+longestStrip = 16384
 
 -- what stands at an offset of a strip, after a call or before any
 unfoldable pub recordAt : List ℕ → ℕ → Bool → Decoded
-recordAt s at called = cond (leb (length s) longest) (cond (leb (length s) at) (endAt at) (wholeAt s at called)) (faultAt longest)
+recordAt s at called = cond (leb (length s) longestStrip) (cond (leb (length s) at) (endAt at) (wholeAt s at called)) (faultAt longestStrip)

@@ -1,4 +1,4 @@
--- A run by steps. What they print is `printed` (`PrintsWhole` in Demands).
+-- Pinned by `PrintsWhole`. A run by steps.
 -- Assumes nothing.
 use Prim.Native.Nat.{ℕ, zero, suc}
 use mathlib.Core.Bool.{Bool, true, false, cond, not}
@@ -7,7 +7,7 @@ use lib.Dec.{eqb}
 use lib.IntN.{ℤ, pos}
 use lib.ListN.{take}
 use Rattle.desk.specs.declared.watch.Watch.{Watch}
-use Rattle.desk.specs.declared.calls.Call.{Call}
+use Rattle.desk.specs.declared.call.Call.{Call}
 use Rattle.desk.specs.declared.record.Desk.{Desk}
 use Rattle.desk.specs.Record.{closed}
 use Rattle.desk.specs.Opening.{opening}

@@ -1,4 +1,5 @@
--- Strips to try, in one table with a single statement (document 01, 'The strip and its program': its sample and its faults).
+-- A statement that antt computes: strips to try, in one table (document 01, 'The strip and its program': its sample and its
+-- faults).
 -- Assumes nothing.
 use Prim.Native.Nat.{ℕ, _+_, _*_}
 use Prim.Native.String.{String}

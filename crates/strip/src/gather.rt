@@ -3,6 +3,7 @@ ghost use mathlib.Core.Path.{_≡_};
 ghost use Rattle.strip.specs.Gather.{nothingGathered, gathered};
 use desk::PLACES;
 use desk::Watch;
+use desk::closed_desk;
 
 // The first records, as many as a desk has places, and how many came; past one too many they are not counted.
 pub struct Gathered {
@@ -13,10 +14,8 @@ pub struct Gathered {
 pub fn nothing_gathered() -> Gathered
     ensures { λ r. ⌜ r ≡ nothingGathered ⌝ }
 {
-    let watch = [Watch {
-        id: 0,
-        running: false,
-    }; PLACES];
+    let none = closed_desk();
+    let watch = none.watch;
     Gathered { watch, count: 0 }
 }
 

@@ -4,36 +4,37 @@ ghost use Prim.Native.Nat.{_+_, _≤_};
 ghost use mathlib.Core.List.{[]};
 ghost use lib.ListN.{length};
 ghost use Rattle.bencode.specs.Put.{Wrote};
-ghost use Rattle.strip.specs.Line.{wordText, callLine, framesText, callText, textOf};
-use super::text::Text;
-use bencode::put::put_bytes;
-use bencode::put::put_decimal;
+ghost use Rattle.desk.specs.Command.{longestFrames};
+ghost use Rattle.strip.specs.Line.{wordText, callLine, framesText, callText, longestWord, longestLine, textOf};
+use super::output::Output;
+use bencode::put_bytes;
+use bencode::put_decimal;
 
 // No line.
-pub fn no_text() -> Text
+pub fn no_text() -> Output
     ensures { λ r. ⌜ r ≡ textOf [] ⌝ }
 {
-    Text {
-        bytes: [0u8; Text::ROOM],
+    Output {
+        bytes: [0u8; Output::ROOM],
         length: 0,
     }
 }
 
 // A line of a word and a number.
-pub fn word_text(word: &[u8], n: usize) -> Text
-    requires { ⌜ length (now word) ≤ 16 ⌝ }
+pub fn word_text(word: &[u8], n: usize) -> Output
+    requires { ⌜ length (now word) ≤ longestWord ⌝ }
     ensures { λ r. ⌜ r ≡ textOf (wordText (now (word .entry)) n) ⌝ }
 {
-    let mut bytes = [0u8; Text::ROOM];
+    let mut bytes = [0u8; Output::ROOM];
     let o = put_bytes(&mut bytes, 0, word);
     let o = put_decimal(&mut bytes, o, n as u64);
     let length = put_bytes(&mut bytes, o, b"\n");
-    Text { bytes, length }
+    Output { bytes, length }
 }
 
 // Puts a call's line: its kind, its code and how many bytes it wrote.
 fn put_call(out: &mut [u8], kind: u8, code: u8, count: usize) -> usize
-    requires { ⌜ 48 ≤ length (now out) ⌝ }
+    requires { ⌜ longestLine ≤ length (now out) ⌝ }
     ensures { λ r. ⌜ Wrote (now (out .entry)) 0 (callLine kind code count) (now (out .exit)) r ⌝ }
 {
     let o = put_decimal(out, 0, kind as u64);
@@ -57,12 +58,12 @@ fn put_frames(out: &mut [u8], at: usize, frames: &[u8]) -> usize
 }
 
 // A call's line, and the bytes it wrote on the next.
-pub fn call_text(kind: u8, code: u8, frames: &[u8]) -> Text
-    requires { ⌜ length (now frames) ≤ 479 ⌝ }
+pub fn call_text(kind: u8, code: u8, frames: &[u8]) -> Output
+    requires { ⌜ length (now frames) ≤ longestFrames ⌝ }
     ensures { λ r. ⌜ r ≡ textOf (callText kind code (now (frames .entry))) ⌝ }
 {
-    let mut bytes = [0u8; Text::ROOM];
+    let mut bytes = [0u8; Output::ROOM];
     let o = put_call(&mut bytes, kind, code, frames.len());
     let length = put_frames(&mut bytes, o, frames);
-    Text { bytes, length }
+    Output { bytes, length }
 }

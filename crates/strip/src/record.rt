@@ -5,7 +5,7 @@ ghost use lib.ListN.{length};
 ghost use Rattle.strip.specs.Record.{bodyLength, mayStand, callOf, callKind, watchOf, bodyAt, faultAt, placedAt, endAt, wholeAt, recordAt};
 use super::number::limit_at;
 use super::number::number_at;
-use bencode::bytes::byte_at;
+use bencode::byte_at;
 use desk::Call;
 
 // What stands at an offset of a strip: a record, a fault or the strip's end.
@@ -31,7 +31,7 @@ const CLEAR: u8 = 6;
 const WATCH: u8 = 7;
 
 // How many bytes a strip may have.
-pub const LONGEST: usize = 16384;
+pub const LONGEST_STRIP: usize = 16384;
 
 // How long the body of a kind is.
 fn body_length(kind: u8) -> usize
@@ -180,8 +180,8 @@ fn whole_at(s: &[u8], at: usize, called: bool) -> Decoded
 pub fn record_at(s: &[u8], at: usize, called: bool) -> Decoded
     ensures { λ r. ⌜ r ≡ recordAt (now (s .entry)) at called ⌝ }
 {
-    if LONGEST < s.len() {
-        return fault_at(LONGEST);
+    if LONGEST_STRIP < s.len() {
+        return fault_at(LONGEST_STRIP);
     }
     if s.len() <= at {
         return end_at(at);

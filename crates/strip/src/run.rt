@@ -7,13 +7,13 @@ use super::gather::nothing_gathered;
 use super::line::call_text;
 use super::line::no_text;
 use super::line::word_text;
+use super::output::Output;
 use super::record::Record;
 use super::record::call_kind;
 use super::record::record_at;
-use super::text::Text;
 use desk::Call;
 use desk::Desk;
-use desk::LONGEST;
+use desk::LONGEST_FRAMES;
 use desk::closed_desk;
 use desk::open_records;
 use desk::perform;
@@ -21,6 +21,7 @@ use desk::perform;
 // Where a run is: what it read before the first call, and from there on the desk's record.
 pub struct Run {
     pub at: usize,
+    // The desk is opened: before the first call, or at the end of a strip without one.
     pub called: bool,
     pub over: bool,
     pub down: i32,
@@ -32,7 +33,7 @@ pub struct Run {
 // The run after a step, and what the step prints.
 pub struct Step {
     pub run: Run,
-    pub text: Text,
+    pub text: Output,
 }
 
 // Nothing is read yet, and the desk is closed.
@@ -120,7 +121,7 @@ fn open_desk(run: Run) -> Step
 fn make_call(run: Run, call: Call, at: usize) -> Step
     ensures { λ r. ⌜ r ≡ performed call at run ⌝ }
 {
-    let mut frames = [0u8; LONGEST];
+    let mut frames = [0u8; LONGEST_FRAMES];
     let done = perform(run.desk, call, &mut frames);
     let desk = done.desk;
     Step {

@@ -1,8 +1,8 @@
 // Runs a strip: makes its steps one by one and prints what each says.
 use libc::STDOUT_FILENO;
-use strip::run::begin;
-use strip::run::next_step;
-use strip::text::Text;
+use strip::Output;
+use strip::begin;
+use strip::next_step;
 
 // Prints the first n bytes, or all where there are fewer.
 fn print_front(bytes: &[u8], n: usize) -> bool {
@@ -12,7 +12,7 @@ fn print_front(bytes: &[u8], n: usize) -> bool {
     io::write_all(STDOUT_FILENO, bytes)
 }
 
-fn print_text(text: Text) -> bool {
+fn print_text(text: Output) -> bool {
     let bytes = text.bytes;
     print_front(&bytes, text.length)
 }

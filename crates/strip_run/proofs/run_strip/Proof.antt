@@ -2,7 +2,7 @@
 -- Assumes nothing.
 use borrow.Author.Needs.{needs}
 use borrow.Author.Tests.{not-true}
-use Rattle.strip.proofs.StepsLeft.{stepsLeft, step-falls}
+use Rattle.strip.proofs.running.StepsLeft.{stepsLeft, step-falls}
 use Rattle.strip_run.proofs.run_strip.Statement.{statement}
 use Rattle.strip_run.proofs.run_strip.Tie as tie
 

@@ -5,7 +5,7 @@ use mathlib.Core.Path.{_≡_, refl, sym, _∙_}
 use native.Mathlib.Omega.{arith}
 use lib.ListN.{length, drop}
 use Rattle.bencode.specs.Bytes.{less}
-use Rattle.bencode.proofs.Order.{less-over, less-prefix, less-differs, less-goes-on}
+use Rattle.bencode.proofs.sequences.Order.{less-over, less-prefix, less-differs, less-goes-on}
 use Rattle.bencode.proofs.bytes.less.Statement.{statement}
 use Rattle.bencode.proofs.bytes.less.Tie as tie
 

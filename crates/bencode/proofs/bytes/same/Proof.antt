@@ -5,7 +5,7 @@ use mathlib.Core.Path.{_≡_, refl, sym, _∙_}
 use native.Mathlib.Omega.{arith}
 use lib.ListN.{length, drop}
 use Rattle.bencode.specs.Bytes.{same}
-use Rattle.bencode.proofs.Equality.{same-lengths, same-over, same-differs, same-goes-on}
+use Rattle.bencode.proofs.sequences.Equality.{same-lengths, same-over, same-differs, same-goes-on}
 use Rattle.bencode.proofs.bytes.same.Statement.{statement}
 use Rattle.bencode.proofs.bytes.same.Tie as tie
 

@@ -2,12 +2,9 @@ use Prim.Native.Nat.{_-_, _≤_}
 use native.Mathlib.Omega.{arith}
 use lib.ListN.{length}
 use Rattle.bencode.specs.Numeral.{decimal}
-use Rattle.bencode.proofs.DigitLaws.{length-above, length-below, length-pos}
+use Rattle.bencode.proofs.numerals.DigitLaws.{length-above, length-below, length-pos}
 use Rattle.bencode.proofs.decimal.decimal_length.Statement.{statement}
 use Rattle.bencode.proofs.decimal.decimal_length.Tie as tie
-use Rattle.bencode.proofs.decimal.decimal_length.Reads as reads
-use Rattle.bencode.proofs.decimal.decimal_length.Lts as lts
-use Rattle.bencode.proofs.decimal.ten_to.Reads as ten-to-reads
 
 abbrev Inv-loop : tie.InvT-loop
 Inv-loop n k₀ k = (1 ≤ k) × (k ≤ 20) × (k ≤ length (decimal n))

@@ -1,19 +1,13 @@
 use mathlib.Core.Path.{_≡_, refl, ap, sym, _∙_}
-use mathlib.Core.List.{List}
-use Prim.Native.Nat.{ℕ, _+_, _*_, _^_, _≤_, _<_}
+use Prim.Native.Nat.{ℕ, _+_, _^_, _≤_, _<_}
 use native.Mathlib.Omega.{arith}
 use lib.ListN.{length, length-set}
 use lib.Seq.{sets}
 use Rattle.bencode.specs.Numeral.{decimal}
-use Rattle.bencode.proofs.DigitLaws.{places, decimal-filled, lt-decimal, pow-down, put-digit}
+use Rattle.bencode.proofs.numerals.DigitLaws.{places, decimal-filled, lt-decimal, pow-down, put-digit}
 use borrow.Author.Needs.{needs}
 use Rattle.bencode.proofs.decimal.store_decimal.Statement.{statement}
 use Rattle.bencode.proofs.decimal.store_decimal.Tie as tie
-use Rattle.bencode.proofs.decimal.store_decimal.Reads as reads
-use Rattle.bencode.proofs.decimal.store_decimal.Lts as lts
-use Rattle.bencode.proofs.decimal.decimal_length.Reads as decimal-length-reads
-use Rattle.bencode.proofs.decimal.take_digit.Reads as take-digit-reads
-use Rattle.bencode.proofs.decimal.ten_to.Reads as ten-to-reads
 
 abbrev Inv-loop : tie.InvT-loop
 Inv-loop out₀ at n k₀ o₀ rest₀ out k o rest =

@@ -1,11 +1,9 @@
 use mathlib.Core.Path.{_≡_}
-use Prim.Native.Nat.{ℕ, _+_, _*_, _≤_, _<_}
-use native.Mathlib.Nat.{add-mul, lt-of-mul-lt-mul-right}
+use Prim.Native.Nat.{_+_, _*_, _<_}
+use native.Mathlib.Nat.{lt-of-mul-lt-mul-right}
 use native.Mathlib.Omega.{arith}
 use Rattle.bencode.proofs.decimal.take_digit.Statement.{statement}
 use Rattle.bencode.proofs.decimal.take_digit.Tie as tie
-use Rattle.bencode.proofs.decimal.take_digit.Reads as reads
-use Rattle.bencode.proofs.decimal.take_digit.Lts as lts
 
 abbrev Inv-loop : tie.InvT-loop
 Inv-loop n p d₀ rest₀ d rest = (n ≡ d * p + rest) × (d < 10)

@@ -3,12 +3,10 @@ use mathlib.Core.List.{List, [], _∷_}
 use Prim.Native.Nat.{ℕ, _^_}
 use lib.Dec.{eqb, eqb→eq}
 use lib.ListN.{getD}
-use Rattle.bencode.proofs.Table.{at}
+use Rattle.bencode.proofs.numerals.Table.{at}
 use borrow.Author.Needs.{needs}
 use Rattle.bencode.proofs.decimal.ten_to.Statement.{statement}
 use Rattle.bencode.proofs.decimal.ten_to.Tie as tie
-use Rattle.bencode.proofs.decimal.ten_to.Reads as reads
-use Rattle.bencode.proofs.decimal.ten_to.Lts as lts
 
 tens : List ℕ
 tens = 1 ∷ 10 ∷ 100 ∷ 1000 ∷ 10000 ∷ 100000 ∷ 1000000 ∷ 10000000 ∷ 100000000 ∷ 1000000000 ∷ 10000000000 ∷ 100000000000 ∷ 1000000000000 ∷ 10000000000000 ∷ 100000000000000 ∷ 1000000000000000 ∷ 10000000000000000 ∷ 100000000000000000 ∷ 1000000000000000000 ∷ 10000000000000000000 ∷ []

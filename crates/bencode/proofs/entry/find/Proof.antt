@@ -6,9 +6,9 @@ use native.Mathlib.Omega.{arith}
 use borrow.Author.Needs.{needs}
 use lib.ListN.{length}
 use Rattle.bencode.specs.Entry.{entryAt}
-use Rattle.bencode.proofs.Ends.{string-whole-inv}
-use Rattle.bencode.proofs.SkipLaws.{skip-range}
-use Rattle.bencode.proofs.EntryLaws.{find-none, find-here, find-more}
+use Rattle.bencode.proofs.walking.Ends.{string-whole-inv}
+use Rattle.bencode.proofs.lookup.SkipLaws.{skip-range}
+use Rattle.bencode.proofs.lookup.EntryLaws.{find-none, find-here, find-more}
 use Rattle.bencode.proofs.entry.find.Statement.{statement}
 use Rattle.bencode.proofs.entry.find.Tie as tie
 

@@ -2,7 +2,7 @@
 -- Assumes nothing.
 use mathlib.Core.Path.{sym, _∙_}
 use Rattle.bencode.specs.declared.entry.Entry.{Entry}
-use Rattle.bencode.proofs.FieldLaws.{field-entry}
+use Rattle.bencode.proofs.lookup.FieldLaws.{field-entry}
 use borrow.Author.Needs.{needs}
 use Rattle.bencode.proofs.field.field_of.Statement.{statement}
 use Rattle.bencode.proofs.field.field_of.Tie as tie

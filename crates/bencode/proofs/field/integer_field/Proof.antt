@@ -2,7 +2,7 @@
 -- Assumes nothing.
 use mathlib.Core.Path.{sym, ap, _∙_}
 use Rattle.bencode.specs.Field.{numberField}
-use Rattle.bencode.proofs.FieldLaws.{field-number}
+use Rattle.bencode.proofs.lookup.FieldLaws.{field-number}
 use borrow.Author.Needs.{needs}
 use Rattle.bencode.proofs.field.integer_field.Statement.{statement}
 use Rattle.bencode.proofs.field.integer_field.Tie as tie

@@ -2,7 +2,7 @@
 -- Assumes nothing.
 use mathlib.Core.Path.{sym, _∙_}
 use borrow.Author.Needs.{needs}
-use Rattle.bencode.proofs.ItemLaws.{item-last, item-none, item-value}
+use Rattle.bencode.proofs.lookup.ItemLaws.{item-last, item-none, item-value}
 use Rattle.bencode.proofs.item.item_at.Statement.{statement}
 use Rattle.bencode.proofs.item.item_at.Tie as tie
 

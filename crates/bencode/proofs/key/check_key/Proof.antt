@@ -3,7 +3,7 @@
 use mathlib.Core.Path.{sym, _∙_}
 use Rattle.bencode.specs.declared.profile.Profile.{Profile}
 use Rattle.bencode.specs.Bytes.{part}
-use Rattle.bencode.proofs.KeyLaws.{key-above-all, key-again, key-unsorted}
+use Rattle.bencode.proofs.walking.KeyLaws.{key-above-all, key-again, key-unsorted}
 use borrow.Author.Needs.{needs}
 use Rattle.bencode.proofs.key.check_key.Statement.{statement}
 use Rattle.bencode.proofs.key.check_key.Tie as tie

@@ -2,10 +2,10 @@
 -- Assumes nothing.
 use mathlib.Core.Path.{sym, _∙_}
 use native.Mathlib.Omega.{arith}
-use Rattle.bencode.specs.declared.string.Text.{Text}
+use Rattle.bencode.specs.declared.strings.Text.{Text}
 use Rattle.bencode.specs.Bytes.{part}
-use Rattle.bencode.proofs.Ends.{string-whole-inv}
-use Rattle.bencode.proofs.KeyLaws.{above-none, above-text}
+use Rattle.bencode.proofs.walking.Ends.{string-whole-inv}
+use Rattle.bencode.proofs.walking.KeyLaws.{above-none, above-text}
 use borrow.Author.Needs.{needs}
 use Rattle.bencode.proofs.key.key_above.Statement.{statement}
 use Rattle.bencode.proofs.key.key_above.Tie as tie

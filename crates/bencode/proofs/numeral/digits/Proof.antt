@@ -5,7 +5,7 @@ use borrow.Author.Needs.{needs}
 use lib.ListN.{length, drop}
 use Rattle.bencode.specs.Bytes.{byteAt}
 use Rattle.bencode.specs.Numeral.{digits, digitsAt, capped}
-use Rattle.bencode.proofs.NumeralLaws.{inside, digits-below, digits-above, digits-more, capped-early, capped-fits}
+use Rattle.bencode.proofs.numerals.NumeralLaws.{inside, digits-below, digits-above, digits-more, capped-early, capped-fits}
 use Rattle.bencode.proofs.numeral.digits.Statement.{statement}
 use Rattle.bencode.proofs.numeral.digits.Tie as tie
 

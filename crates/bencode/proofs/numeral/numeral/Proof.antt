@@ -1,7 +1,7 @@
 use mathlib.Core.Path.{sym, ap, _∙_}
 use native.Mathlib.Omega.{arith}
 use Rattle.bencode.specs.Numeral.{capped}
-use Rattle.bencode.proofs.NumeralLaws.{inside, numeral-zero, numeral-digits}
+use Rattle.bencode.proofs.numerals.NumeralLaws.{inside, numeral-zero, numeral-digits}
 use borrow.Author.Needs.{needs}
 use Rattle.bencode.proofs.numeral.numeral.Statement.{statement}
 use Rattle.bencode.proofs.numeral.numeral.Tie as tie

@@ -10,7 +10,7 @@ use mir.Syntax.{w64}
 use mir.ValLaws.{toZ-ofZ}
 use Rattle.bencode.specs.Numeral.{decimal}
 use Rattle.bencode.specs.Value.{integer, sign, encode}
-use Rattle.bencode.proofs.PutParts.{integer-size}
+use Rattle.bencode.proofs.writing.PutParts.{integer-size}
 use Rattle.bencode.proofs.put.integer_length.Statement.{statement}
 use Rattle.bencode.proofs.put.integer_length.Tie as tie
 

@@ -1,12 +1,11 @@
 -- `bencode::put::lacks_room` meets its contract.
 -- Assumes nothing.
 use Prim.Native.Nat.{_+_, _-_, _≤_, _<_}
-use mathlib.Core.Path.{_≡_, refl, sym}
+use mathlib.Core.Path.{refl, sym}
 use mathlib.Core.Logic.{⊎-elim}
 use native.Mathlib.Omega.{arith}
 use borrow.Author.Tests.{lt-ltb, le-ltb}
-use lib.Dec.{ltb}
-use Rattle.bencode.proofs.DigitLaws.{lt-or-le}
+use Rattle.bencode.proofs.numerals.DigitLaws.{lt-or-le}
 use Rattle.bencode.proofs.put.lacks_room.Statement.{statement}
 use Rattle.bencode.proofs.put.lacks_room.Tie as tie
 

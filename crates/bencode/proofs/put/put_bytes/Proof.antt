@@ -1,11 +1,11 @@
 -- `bencode::put::put_bytes` meets its contract.
 -- Assumes nothing.
-use Prim.Native.Nat.{_+_, _≤_, _<_}
-use mathlib.Core.Path.{_≡_, sym, _∙_}
+use Prim.Native.Nat.{_+_}
+use mathlib.Core.Path.{sym, _∙_}
 use borrow.Author.Needs.{needs}
 use borrow.Author.Tests.{ltb-false, ltb-true}
 use lib.ListN.{length}
-use Rattle.bencode.proofs.PutLaws.{wrote-put, put-none}
+use Rattle.bencode.proofs.writing.PutLaws.{wrote-put, put-none}
 use Rattle.bencode.proofs.put.put_bytes.Statement.{statement}
 use Rattle.bencode.proofs.put.put_bytes.Tie as tie
 

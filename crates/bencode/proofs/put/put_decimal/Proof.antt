@@ -7,7 +7,7 @@ use borrow.Author.Tests.{ltb-false, ltb-true}
 use lib.Dec.{ltb}
 use lib.ListN.{length}
 use Rattle.bencode.specs.Numeral.{decimal}
-use Rattle.bencode.proofs.PutLaws.{wrote-put, put-none}
+use Rattle.bencode.proofs.writing.PutLaws.{wrote-put, put-none}
 use borrow.Author.Needs.{needs}
 use Rattle.bencode.proofs.put.put_decimal.Statement.{statement}
 use Rattle.bencode.proofs.put.put_decimal.Tie as tie

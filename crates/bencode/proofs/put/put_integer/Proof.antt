@@ -1,6 +1,6 @@
 -- `bencode::put::put_integer` meets its contract.
 -- Assumes nothing.
-use Prim.Native.Nat.{ℕ, _+_, _≤_, _<_}
+use Prim.Native.Nat.{ℕ, _+_}
 use mathlib.Core.Bool.{Bool, true, false}
 use mathlib.Core.Path.{_≡_, sym, ap, _∙_}
 use borrow.Author.Needs.{needs}
@@ -10,7 +10,7 @@ use lib.ListN.{length}
 use mir.Syntax.{w64}
 use mir.ValLaws.{toZ-ofZ}
 use Rattle.bencode.specs.Value.{integer, encode}
-use Rattle.bencode.proofs.PutLaws.{wrote-put, put-none}
+use Rattle.bencode.proofs.writing.PutLaws.{wrote-put, put-none}
 use Rattle.bencode.proofs.put.put_integer.Statement.{statement}
 use Rattle.bencode.proofs.put.put_integer.Tie as tie
 

@@ -8,8 +8,8 @@ use borrow.Author.Tests.{ltb-false, ltb-true}
 use lib.ListN.{length}
 use Rattle.bencode.specs.Numeral.{decimal}
 use Rattle.bencode.specs.Value.{encodeString}
-use Rattle.bencode.proofs.PutLaws.{wrote-put, put-none}
-use Rattle.bencode.proofs.PutParts.{string-size}
+use Rattle.bencode.proofs.writing.PutLaws.{wrote-put, put-none}
+use Rattle.bencode.proofs.writing.PutParts.{string-size}
 use Rattle.bencode.proofs.put.put_string.Statement.{statement}
 use Rattle.bencode.proofs.put.put_string.Tie as tie
 

@@ -1,11 +1,9 @@
-use mathlib.Core.Path.{_≡_, ap}
+use mathlib.Core.Path.{ap}
 use native.Mathlib.Omega.{arith}
 use lib.ListN.{length}
-use Rattle.bencode.proofs.SignedLaws.{negative, natural}
+use Rattle.bencode.proofs.scalars.SignedLaws.{negative, natural}
 use Rattle.bencode.proofs.put.sign_length.Statement.{statement}
 use Rattle.bencode.proofs.put.sign_length.Tie as tie
-use Rattle.bencode.proofs.put.sign_length.Reads as reads
-use Rattle.bencode.proofs.put.sign_length.Lts as lts
 
 returns : tie.Need-returns
 returns c =

@@ -1,7 +1,7 @@
 -- `bencode::put::store_integer` stores its parts one after the other.
 -- Assumes nothing.
 use mathlib.Core.Path.{_≡_, subst, sym}
-use mathlib.Core.List.{List, [], _∷_, flatten}
+use mathlib.Core.List.{List, [], _∷_}
 use Prim.Native.Nat.{ℕ, _+_, _≤_}
 use denote.Ref.{now}
 use borrow.Author.Needs.{needs}
@@ -12,8 +12,8 @@ use mir.ValLaws.{toZ-ofZ}
 use Rattle.bencode.specs.Numeral.{decimal}
 use Rattle.bencode.specs.Value.{sign}
 use Rattle.bencode.specs.Put.{Wrote}
-use Rattle.bencode.proofs.PutLaws.{Writing, start, room-next, next, finish}
-use Rattle.bencode.proofs.PutParts.{integerParts, integer-parts}
+use Rattle.bencode.proofs.writing.PutLaws.{Writing, start, room-next, next, finish}
+use Rattle.bencode.proofs.writing.PutParts.{integerParts, integer-parts}
 use Rattle.bencode.proofs.put.store_integer.Statement.{statement}
 use Rattle.bencode.proofs.put.store_integer.Tie as tie
 

@@ -1,14 +1,11 @@
-use mathlib.Core.Path.{_≡_, ap}
+use mathlib.Core.Path.{ap}
 use native.Mathlib.Omega.{arith}
 use lib.ListN.{length}
-use Rattle.bencode.specs.Value.{sign}
-use Rattle.bencode.proofs.PutLaws.{wrote-none, wrote-byte}
-use Rattle.bencode.proofs.SignedLaws.{negative, natural}
+use Rattle.bencode.proofs.writing.PutLaws.{wrote-none, wrote-byte}
+use Rattle.bencode.proofs.scalars.SignedLaws.{negative, natural}
 use borrow.Author.Needs.{needs}
 use Rattle.bencode.proofs.put.store_sign.Statement.{statement}
 use Rattle.bencode.proofs.put.store_sign.Tie as tie
-use Rattle.bencode.proofs.put.store_sign.Reads as reads
-use Rattle.bencode.proofs.put.store_sign.Lts as lts
 
 slice-write-out : tie.Need-slice-write-out
 slice-write-out c =

@@ -1,14 +1,14 @@
 -- `bencode::put::store_string` stores its parts one after the other.
 -- Assumes nothing.
 use mathlib.Core.Path.{subst, sym}
-use mathlib.Core.List.{List, [], _∷_, flatten}
+use mathlib.Core.List.{List, [], _∷_}
 use Prim.Native.Nat.{ℕ, _+_, _≤_}
 use denote.Ref.{now}
 use borrow.Author.Needs.{needs}
 use lib.ListN.{length}
 use Rattle.bencode.specs.Put.{Wrote}
-use Rattle.bencode.proofs.PutLaws.{Writing, start, room-next, next, finish}
-use Rattle.bencode.proofs.PutParts.{stringParts, string-parts}
+use Rattle.bencode.proofs.writing.PutLaws.{Writing, start, room-next, next, finish}
+use Rattle.bencode.proofs.writing.PutParts.{stringParts, string-parts}
 use Rattle.bencode.proofs.put.store_string.Statement.{statement}
 use Rattle.bencode.proofs.put.store_string.Tie as tie
 

@@ -1,14 +1,12 @@
 use mathlib.Core.Path.{_≡_, refl, ap, sym, _∙_}
-use Prim.Native.Nat.{ℕ, _+_, _-_, _≤_}
+use Prim.Native.Nat.{_+_, _-_, _≤_}
 use native.Mathlib.Omega.{arith}
 use lib.ListN.{length, drop, length-set, drop-of-length-le}
 use denote.Ref.{now}
 use lib.Seq.{sets}
-use Rattle.bencode.proofs.PutLaws.{put-byte}
+use Rattle.bencode.proofs.writing.PutLaws.{put-byte}
 use Rattle.bencode.proofs.store.store_bytes.Statement.{statement}
 use Rattle.bencode.proofs.store.store_bytes.Tie as tie
-use Rattle.bencode.proofs.store.store_bytes.Reads as reads
-use Rattle.bencode.proofs.store.store_bytes.Lts as lts
 
 abbrev Inv-loop : tie.InvT-loop
 Inv-loop out₀ at src o₀ j₀ out o j =

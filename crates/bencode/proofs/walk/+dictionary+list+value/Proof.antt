@@ -8,16 +8,16 @@ use mathlib.Core.List.{List, [], _∷_}
 use native.Mathlib.Omega.{arith}
 use borrow.Author.Needs.{needs}
 use lib.ListN.{length}
-use Rattle.bencode.specs.declared.string.Text.{Text}
-use Rattle.bencode.specs.String.{stringAt}
+use Rattle.bencode.specs.declared.strings.Text.{Text}
+use Rattle.bencode.specs.Strings.{stringAt}
 use Rattle.bencode.specs.Bytes.{part}
 use Rattle.bencode.specs.Depth.{levelsLeft}
 use Rattle.bencode.specs.Walk.{valueAt, listAt, dictionaryAt, dictionaryFrom}
-use Rattle.bencode.proofs.NumeralLaws.{inside}
-use Rattle.bencode.proofs.Ends.{string-whole-inv}
-use Rattle.bencode.proofs.WalkLaws.{value-ends, value-scalar, value-list, value-dictionary, value-deep-list, value-deep-dictionary, list-end, list-fault, list-more, dictionary-end, dictionary-no-key, dictionary-refused, dictionary-fault, dictionary-more}
-use Rattle.bencode.proofs.DepthLaws.{deeper-left, too-deep-left}
-use Rattle.bencode.proofs.KeyLaws.{Kept, kept-none, key-allowed, key-refused}
+use Rattle.bencode.proofs.numerals.NumeralLaws.{inside}
+use Rattle.bencode.proofs.walking.Ends.{string-whole-inv}
+use Rattle.bencode.proofs.walking.WalkLaws.{value-ends, value-scalar, value-list, value-dictionary, value-deep-list, value-deep-dictionary, list-end, list-fault, list-more, dictionary-end, dictionary-no-key, dictionary-refused, dictionary-fault, dictionary-more}
+use Rattle.bencode.proofs.walking.DepthLaws.{deeper-left, too-deep-left}
+use Rattle.bencode.proofs.walking.KeyLaws.{Kept, kept-none, key-allowed, key-refused}
 use borrow.Fn.Kinds.{In}
 use borrow.Fn.PlainCycle.{Measures, is, falls, and}
 use Rattle.bencode.proofs.walk.dictionary.Reads as dictionary
@@ -33,7 +33,7 @@ use Rattle.bencode.proofs.bytes.byte_at.Reads as byte-at-reads
 use Rattle.bencode.proofs.depth.Depth.nested.Reads as nested-reads
 use Rattle.bencode.proofs.key.check_key.Reads as check-key-reads
 use Rattle.bencode.proofs.scalar.scalar_end.Reads as scalar-end-reads
-use Rattle.bencode.proofs.string.string.Reads as string-reads
+use Rattle.bencode.proofs.strings.string.Reads as string-reads
 use Rattle.bencode.proofs.walk.+dictionary+list+value.{statement}
 use Rattle.bencode.proofs.walk.+dictionary+list+value.Tie.{close}
 

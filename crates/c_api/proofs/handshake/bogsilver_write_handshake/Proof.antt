@@ -1,7 +1,7 @@
 -- `c_api::handshake::bogsilver_write_handshake` meets its contract.
 -- Assumes nothing.
 use borrow.Author.Needs.{needs}
-use Rattle.c_api.proofs.AnswerLaws.{outcome-numbers}
+use Rattle.c_api.proofs.AnswerLaws.{leaves-numbers}
 use Rattle.c_api.proofs.handshake.bogsilver_write_handshake.Statement.{statement}
 use Rattle.c_api.proofs.handshake.bogsilver_write_handshake.Tie as tie
 
@@ -15,7 +15,7 @@ same-length : tie.Need-same-length
 same-length c = search needs
 
 returns : tie.Need-returns
-returns c = outcome-numbers (c .before .before .before .write-handshake .ensures) (c .write-answer-of .ensures)
+returns c = leaves-numbers (c .before .before .before .write-handshake .ensures) (c .write-answer-of .ensures)
 
 pub bogsilver-write-handshake-spec : {M : Type 1} → statement M
 bogsilver-write-handshake-spec =

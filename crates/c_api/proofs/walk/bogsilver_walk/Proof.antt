@@ -19,7 +19,7 @@ walk-answer-of-requires : tie.Need-walk-answer-of-requires
 walk-answer-of-requires c κs = search needs
 
 returns : tie.Need-returns
-returns c = c .walk-answer-of .ensures ∙ ap walkNumbers (c .before .payload .ensures ∙ ap (λ (p : Profile). payloadAt p (now (c .before .before .before .before .args .s))) (c .before .before .profile .ensures))
+returns c = c .walk-answer-of .ensures ∙ ap walkNumbers (c .before .payload .ensures .0 ∙ ap (λ (p : Profile). payloadAt p (now (c .before .before .before .before .args .s))) (c .before .before .profile .ensures))
 
 pub bogsilver-walk-spec : {M : Type 1} → statement M
 bogsilver-walk-spec =

@@ -7,7 +7,7 @@ use lib.ListN.{length}
 use mir.Syntax.{w64}
 use mir.ValLaws.{toZ-ofZ}
 use Rattle.c_api.specs.Offered.{offered}
-use Rattle.c_api.proofs.AnswerLaws.{outcome-numbers, refused-numbers, key-refused, outcome-as}
+use Rattle.c_api.proofs.AnswerLaws.{leaves-numbers, refused-numbers, key-refused, leaves-as}
 use Rattle.c_api.proofs.write.bogsilver_write.Statement.{statement}
 use Rattle.c_api.proofs.write.bogsilver_write.Tie as tie
 
@@ -38,7 +38,7 @@ returns-2 : tie.Need-returns-2
 returns-2 c =
     let a = c .before .before .before .before .before .before .before .before .before .args in
     let value : offered (a .kind) (a .integer) ≡ c .before .before .before .before .before .offered-of .result = sym (rw (toZ-ofZ w64 (a .integer) (c .before .before .before .before .before .before .before .before .before .fits .integer)) at (c .before .before .before .before .before .offered-of .ensures)) in
-    outcome-numbers (outcome-as (a .key) (a .tag) (now (a .s)) (now (a .out)) _ _ (c .before .before .before .before .before .offered-of .result) value (c .before .before .before .write-offered .ensures)) (c .write-answer-of2 .ensures)
+    leaves-numbers (leaves-as (a .key) (a .tag) (now (a .s)) (now (a .out)) _ _ (c .before .before .before .before .before .offered-of .result) value (c .before .before .before .write-offered .ensures)) (c .write-answer-of2 .ensures)
 
 pub bogsilver-write-spec : {M : Type 1} → statement M
 bogsilver-write-spec =

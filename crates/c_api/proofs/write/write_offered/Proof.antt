@@ -3,10 +3,10 @@
 use mathlib.Core.Path.{sym, ap}
 use denote.Ref.{now}
 use borrow.Author.Needs.{needs}
-use Rattle.ipc.proofs.OutcomeLaws.{outcome-refused}
-use Rattle.ipc.specs.declared.write.Written.{Written}
+use Rattle.ipc.proofs.writing.WriteLaws.{leaves-refused}
+use Rattle.ipc.specs.declared.writer.Written.{Written}
 use Rattle.c_api.specs.declared.offered.Offered.{Offered}
-use Rattle.c_api.proofs.AnswerLaws.{outcome-as}
+use Rattle.c_api.proofs.AnswerLaws.{leaves-as}
 use Rattle.c_api.proofs.write.write_offered.Statement.{statement}
 use Rattle.c_api.proofs.write.write_offered.Tie as tie
 
@@ -26,10 +26,10 @@ same-length : tie.Need-same-length
 same-length c = search needs
 
 returns : tie.Need-returns
-returns c = outcome-as (c .before .before .before .before .before .before .before .before .before .args .key) (c .before .before .before .before .before .before .before .before .before .args .tag) (now (c .before .before .before .before .before .before .before .before .before .args .s)) (now (c .before .before .before .before .before .before .before .before .before .args .out)) _ _ (Offered.Given (c .before .before .before .before .before .value .given .0 .0)) (c .before .before .before .before .before .value .given .1) (c .before .before .write .ensures)
+returns c = leaves-as (c .before .before .before .before .before .before .before .before .before .args .key) (c .before .before .before .before .before .before .before .before .before .args .tag) (now (c .before .before .before .before .before .before .before .before .before .args .s)) (now (c .before .before .before .before .before .before .before .before .before .args .out)) _ _ (Offered.Given (c .before .before .before .before .before .value .given .0 .0)) (c .before .before .before .before .before .value .given .1) (c .before .before .write .ensures)
 
 returns-2 : tie.Need-returns-2
-returns-2 c = outcome-as (c .before .before .before .before .before .args .key) (c .before .before .before .before .before .args .tag) (now (c .before .before .before .before .before .args .s)) (now (c .before .before .before .before .before .args .out)) _ _ Offered.Unknown (c .before .enum-told .given .1) (outcome-refused _ _ _ _ (ap Written.Refused (sym (c .unknown-code .ensures))))
+returns-2 c = leaves-as (c .before .before .before .before .before .args .key) (c .before .before .before .before .before .args .tag) (now (c .before .before .before .before .before .args .s)) (now (c .before .before .before .before .before .args .out)) _ _ Offered.Unknown (c .before .enum-told .given .1) (leaves-refused _ _ _ _ (ap Written.Refused (sym (c .unknown-code .ensures))))
 
 pub write-offered-spec : {M : Type 1} → statement M
 write-offered-spec =

@@ -3,7 +3,7 @@
 use mathlib.Core.Path.{refl}
 use denote.Ref.{now}
 use Rattle.desk.specs.Calls.{refused}
-use Rattle.desk.proofs.CallLaws.{nothing-sent, delivered-short, delivered-put}
+use Rattle.desk.proofs.acting.CallLaws.{nothing-sent, delivered-short, delivered-put}
 use borrow.Author.Needs.{needs}
 use Rattle.desk.proofs.calls.deliver.Statement.{statement}
 use Rattle.desk.proofs.calls.deliver.Tie as tie

@@ -10,10 +10,10 @@ use Rattle.desk.specs.Command.{framesOf}
 use Rattle.desk.specs.Refusal.{callFault}
 use Rattle.desk.specs.Plan.{deskAfter, commandsOf}
 use Rattle.desk.specs.Calls.{refused, returned}
-use Rattle.desk.proofs.CallLaws.{nothing-sent, returned-as, outcome-refused, outcome-deferred, outcome-sends}
-use Rattle.desk.proofs.PlanLaws.{commands-length}
-use Rattle.desk.proofs.PutFrames.{Front, front-wrote, front-count}
-use Rattle.desk.proofs.RefusalLaws.{accepted-call}
+use Rattle.desk.proofs.acting.CallLaws.{nothing-sent, returned-as, outcome-refused, outcome-deferred, outcome-sends}
+use Rattle.desk.proofs.acting.PlanLaws.{commands-length}
+use Rattle.desk.proofs.writing.PutFrames.{Front, front-wrote, front-count}
+use Rattle.desk.proofs.acting.RefusalLaws.{accepted-call}
 use borrow.Author.Needs.{needs}
 use Rattle.desk.proofs.calls.perform.Statement.{statement}
 use Rattle.desk.proofs.calls.perform.Tie as tie

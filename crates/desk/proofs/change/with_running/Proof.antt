@@ -5,7 +5,7 @@ use native.Mathlib.Omega.{arith}
 use lib.ListN.{length-take}
 use borrow.Author.Needs.{needs}
 use Rattle.desk.specs.Record.{watched, withRunning}
-use Rattle.desk.proofs.WatchLists.{place-below}
+use Rattle.desk.proofs.watching.WatchLists.{place-below}
 use Rattle.desk.proofs.change.with_running.Statement.{statement}
 use Rattle.desk.proofs.change.with_running.Tie as tie
 

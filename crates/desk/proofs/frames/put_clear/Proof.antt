@@ -9,14 +9,14 @@ use denote.Ref.{now}
 use mir.Syntax.{w32}
 use mir.Val.{SFits}
 use mir.ValLaws.{toZ-ofZ}
-use Rattle.bencode.proofs.PutLaws.{Writing, start, next-put, finish}
+use Rattle.bencode.proofs.writing.PutLaws.{Writing, start, next-put, finish}
 use Rattle.desk.specs.declared.lists.Pick.{Pick}
 use Rattle.desk.specs.Watch.{pickIds}
 use Rattle.desk.specs.Record.{watched}
 use Rattle.desk.specs.Command.{noTag, startKey, stopKey, uplimitKey, limitFrame, listedFrame}
 use Rattle.desk.specs.Plan.{clearCommands}
-use Rattle.desk.proofs.FrameParts.{fourParts, four-parts}
-use Rattle.desk.proofs.SoundLaws.{sound-parts}
+use Rattle.desk.proofs.writing.FrameParts.{fourParts, four-parts}
+use Rattle.desk.proofs.records.SoundLaws.{sound-parts}
 use borrow.Author.Needs.{needs}
 use Rattle.desk.proofs.frames.put_clear.Statement.{statement}
 use Rattle.desk.proofs.frames.put_clear.Tie as tie

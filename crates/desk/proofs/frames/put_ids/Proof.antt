@@ -5,11 +5,11 @@ use mathlib.Core.List.{List, [], _∷_}
 use native.Mathlib.Omega.{arith}
 use denote.Ref.{now}
 use Rattle.bencode.specs.Value.{encodeAll}
-use Rattle.bencode.proofs.PutLaws.{Writing, start, room-next, next, next-put, finish}
+use Rattle.bencode.proofs.writing.PutLaws.{Writing, start, room-next, next, next-put, finish}
 use Rattle.desk.specs.Watch.{pickIds}
 use Rattle.desk.specs.Record.{watched}
 use Rattle.desk.specs.Command.{values}
-use Rattle.desk.proofs.ListParts.{listParts, list-parts}
+use Rattle.desk.proofs.writing.ListParts.{listParts, list-parts}
 use borrow.Author.Needs.{needs}
 use Rattle.desk.proofs.frames.put_ids.Statement.{statement}
 use Rattle.desk.proofs.frames.put_ids.Tie as tie

@@ -10,12 +10,12 @@ use borrow.Author.Needs.{needs}
 use lib.IntN.{pos}
 use Rattle.bencode.specs.Put.{Put}
 use Rattle.bencode.specs.Value.{integer, encode}
-use Rattle.bencode.proofs.PutLaws.{Writing, start, finish}
-use Rattle.bencode.proofs.Ranges.{natural-machine}
+use Rattle.bencode.proofs.writing.PutLaws.{Writing, start, finish}
+use Rattle.bencode.proofs.scalars.Ranges.{natural-machine}
 use Rattle.desk.specs.Watch.{empty, filtered, pickIds}
 use Rattle.desk.specs.Record.{watched}
-use Rattle.desk.proofs.ListParts.{itemParts, item-parts, item-put, item-passed}
-use Rattle.desk.proofs.Scans.{record-next, record-none}
+use Rattle.desk.proofs.writing.ListParts.{itemParts, item-parts, item-put, item-passed}
+use Rattle.desk.proofs.watching.Scans.{record-next, record-none}
 use Rattle.desk.proofs.frames.put_items.Statement.{statement}
 use Rattle.desk.proofs.frames.put_items.Tie as tie
 

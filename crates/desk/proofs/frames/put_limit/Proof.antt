@@ -5,10 +5,10 @@ use mathlib.Core.List.{[]}
 use denote.Ref.{now}
 use lib.IntN.{ℤ}
 use Rattle.bencode.specs.Put.{Put}
-use Rattle.ipc.specs.declared.write.Given.{Given}
+use Rattle.ipc.specs.declared.writer.Given.{Given}
 use Rattle.desk.specs.Command.{limitFrame, Writable}
-use Rattle.desk.proofs.LimitLaws.{wide-fits, wide}
-use Rattle.desk.proofs.Writes.{limit-writable}
+use Rattle.desk.proofs.numbers.LimitLaws.{wide-fits, wide}
+use Rattle.desk.proofs.writing.Writes.{limit-writable}
 use borrow.Author.Needs.{needs}
 use Rattle.desk.proofs.frames.put_limit.Statement.{statement}
 use Rattle.desk.proofs.frames.put_limit.Tie as tie

@@ -5,10 +5,10 @@ use denote.Ref.{now}
 use Rattle.desk.specs.Watch.{pickIds}
 use Rattle.desk.specs.Record.{watched}
 use Rattle.desk.specs.Command.{idList}
-use Rattle.desk.proofs.FrameParts.{picked-few, picked-room, listed-none, listed-some}
-use Rattle.desk.proofs.PutFrames.{Front, front-wrote, front-count, put-nothing}
-use Rattle.desk.proofs.SoundLaws.{sound-parts}
-use Rattle.desk.proofs.Writes.{ids-writable}
+use Rattle.desk.proofs.writing.FrameParts.{picked-few, picked-room, listed-none, listed-some}
+use Rattle.desk.proofs.writing.PutFrames.{Front, front-wrote, front-count, put-nothing}
+use Rattle.desk.proofs.records.SoundLaws.{sound-parts}
+use Rattle.desk.proofs.writing.Writes.{ids-writable}
 use borrow.Author.Needs.{needs}
 use Rattle.desk.proofs.frames.put_listed.Statement.{statement}
 use Rattle.desk.proofs.frames.put_listed.Tie as tie

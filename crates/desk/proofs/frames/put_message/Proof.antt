@@ -2,7 +2,7 @@
 -- Assumes nothing.
 use native.Mathlib.Omega.{arith}
 use denote.Ref.{now}
-use Rattle.desk.proofs.PutFrames.{part-counted, part-put, part-kept, put-past}
+use Rattle.desk.proofs.writing.PutFrames.{part-counted, part-put, part-kept, put-past}
 use borrow.Author.Needs.{needs}
 use Rattle.desk.proofs.frames.put_message.Statement.{statement}
 use Rattle.desk.proofs.frames.put_message.Tie as tie

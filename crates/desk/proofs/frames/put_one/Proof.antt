@@ -7,15 +7,15 @@ use mathlib.Core.List.{List, [], _∷_}
 use native.Mathlib.Omega.{arith}
 use lib.ListN.{length, replicate}
 use Rattle.bencode.specs.Value.{encodeAll}
-use Rattle.bencode.proofs.PutLaws.{Writing, start, next-put, finish}
-use Rattle.bencode.proofs.Ranges.{natural-machine}
+use Rattle.bencode.proofs.writing.PutLaws.{Writing, start, next-put, finish}
+use Rattle.bencode.proofs.scalars.Ranges.{natural-machine}
 use Rattle.desk.specs.Watch.{isId}
 use Rattle.desk.specs.Command.{values, idList}
-use Rattle.desk.proofs.CommandLaws.{one-id}
-use Rattle.desk.proofs.FrameLengths.{list-length, items-small}
-use Rattle.desk.proofs.ListParts.{listParts, list-parts, one-item}
-use Rattle.desk.proofs.PutFrames.{Front, front-wrote, front-count}
-use Rattle.desk.proofs.Writes.{ids-writable}
+use Rattle.desk.proofs.machines.CommandLaws.{one-id}
+use Rattle.desk.proofs.writing.FrameLengths.{list-length, items-small}
+use Rattle.desk.proofs.writing.ListParts.{listParts, list-parts, one-item}
+use Rattle.desk.proofs.writing.PutFrames.{Front, front-wrote, front-count}
+use Rattle.desk.proofs.writing.Writes.{ids-writable}
 use borrow.Author.Needs.{needs}
 use Rattle.desk.proofs.frames.put_one.Statement.{statement}
 use Rattle.desk.proofs.frames.put_one.Tie as tie

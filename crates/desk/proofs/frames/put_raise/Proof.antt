@@ -6,16 +6,16 @@ use mathlib.Core.Logic.{inl, inr}
 use mathlib.Core.List.{List, [], _∷_}
 use native.Mathlib.Omega.{arith}
 use denote.Ref.{now}
-use Rattle.bencode.proofs.PutLaws.{Writing, start, next-put, finish}
+use Rattle.bencode.proofs.writing.PutLaws.{Writing, start, next-put, finish}
 use Rattle.desk.specs.declared.lists.Pick.{Pick}
 use Rattle.desk.specs.Limit.{unlimited, isLimit}
 use Rattle.desk.specs.Watch.{pickIds}
 use Rattle.desk.specs.Record.{watched}
 use Rattle.desk.specs.Command.{noTag, startKey, stopKey, uplimitKey, limitFrame, listedFrame}
 use Rattle.desk.specs.Plan.{raiseCommands}
-use Rattle.desk.proofs.FrameParts.{fourParts, four-parts}
-use Rattle.desk.proofs.SoundLaws.{sound-parts}
-use Rattle.desk.proofs.WatchLists.{has-id}
+use Rattle.desk.proofs.writing.FrameParts.{fourParts, four-parts}
+use Rattle.desk.proofs.records.SoundLaws.{sound-parts}
+use Rattle.desk.proofs.watching.WatchLists.{has-id}
 use borrow.Author.Needs.{needs}
 use Rattle.desk.proofs.frames.put_raise.Statement.{statement}
 use Rattle.desk.proofs.frames.put_raise.Tie as tie

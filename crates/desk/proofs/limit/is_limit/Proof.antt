@@ -2,7 +2,7 @@
 -- Assumes nothing.
 use mathlib.Core.Path.{sym, _∙_}
 use borrow.Author.Needs.{needs}
-use Rattle.desk.proofs.LimitLaws.{limit-some, limit-none}
+use Rattle.desk.proofs.numbers.LimitLaws.{limit-some, limit-none}
 use Rattle.desk.proofs.limit.is_limit.Statement.{statement}
 use Rattle.desk.proofs.limit.is_limit.Tie as tie
 

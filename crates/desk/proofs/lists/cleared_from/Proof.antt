@@ -7,7 +7,7 @@ use native.Mathlib.Omega.{arith}
 use borrow.Author.Needs.{needs}
 use lib.ListN.{take}
 use Rattle.desk.specs.Watch.{padded}
-use Rattle.desk.proofs.Places.{places-none, places-set}
+use Rattle.desk.proofs.watching.Places.{places-none, places-set}
 use Rattle.desk.proofs.lists.cleared_from.Statement.{statement}
 use Rattle.desk.proofs.lists.cleared_from.Tie as tie
 

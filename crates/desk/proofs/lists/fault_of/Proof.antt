@@ -7,13 +7,13 @@ use native.Mathlib.Omega.{arith}
 use borrow.Author.Needs.{needs}
 use borrow.Author.Tests.{not-true, not-false}
 use lib.ListN.{take, drop}
-use Rattle.desk.specs.Watch.{fault}
-use Rattle.desk.proofs.Scans.{fault-range, fault-again, fault-past, fault-none}
+use Rattle.desk.specs.Watch.{listFault}
+use Rattle.desk.proofs.watching.Scans.{fault-range, fault-again, fault-past, fault-none}
 use Rattle.desk.proofs.lists.fault_of.Statement.{statement}
 use Rattle.desk.proofs.lists.fault_of.Tie as tie
 
 abbrev Inv-loop : tie.InvT-loop
-Inv-loop n places i₀ i = (i ≤ n) × (fault [] (take n places) ≡ fault (take i places) (drop i (take n places)))
+Inv-loop n places i₀ i = (i ≤ n) × (listFault [] (take n places) ≡ listFault (take i places) (drop i (take n places)))
 
 abbrev μ-loop : tie.MeasureT-loop
 μ-loop n places i₀ i = n - i

@@ -3,7 +3,7 @@
 use native.Mathlib.Omega.{arith}
 use lib.ListN.{take}
 use lib.Seq.{length-take-le}
-use Rattle.desk.proofs.WatchLists.{has-place}
+use Rattle.desk.proofs.watching.WatchLists.{has-place}
 use borrow.Author.Needs.{needs}
 use Rattle.desk.proofs.lists.has_id.Statement.{statement}
 use Rattle.desk.proofs.lists.has_id.Tie as tie

@@ -6,8 +6,8 @@ use lib.IntN.{pos}
 use mir.Syntax.{w64}
 use mir.Val.{toZ}
 use borrow.Author.Needs.{needs}
-use Rattle.bencode.proofs.Ranges.{natural-machine}
-use Rattle.desk.proofs.IdLaws.{id-some, id-none}
+use Rattle.bencode.proofs.scalars.Ranges.{natural-machine}
+use Rattle.desk.proofs.numbers.IdLaws.{id-some, id-none}
 use Rattle.desk.proofs.lists.is_id.Statement.{statement}
 use Rattle.desk.proofs.lists.is_id.Tie as tie
 

@@ -6,7 +6,7 @@ use native.Mathlib.Nat.{zero-add}
 use native.Mathlib.Omega.{arith}
 use lib.ListN.{take, drop}
 use Rattle.desk.specs.Watch.{place}
-use Rattle.desk.proofs.Scans.{place-here, place-past, place-none}
+use Rattle.desk.proofs.watching.Scans.{place-here, place-past, place-none}
 use Rattle.desk.proofs.lists.place_of.Statement.{statement}
 use Rattle.desk.proofs.lists.place_of.Tie as tie
 

@@ -5,7 +5,7 @@ use Prim.Native.Nat.{_-_}
 use native.Mathlib.Omega.{arith}
 use lib.ListN.{drop}
 use Rattle.desk.specs.Watch.{unused}
-use Rattle.desk.proofs.Scans.{unused-id, unused-mark, unused-past, unused-none}
+use Rattle.desk.proofs.watching.Scans.{unused-id, unused-mark, unused-past, unused-none}
 use Rattle.desk.proofs.lists.unused_from.Statement.{statement}
 use Rattle.desk.proofs.lists.unused_from.Tie as tie
 

@@ -49,8 +49,8 @@ use denote.Triple.Walked.{says, Stays, stay-none-slice, walkOf, goes-none-slice,
 use denote.Exit.{yes}
 use Rattle.desk.specs.Watch.{empty, padded}
 use Rattle.desk.specs.declared.watch.Watch.{Watch}
-use Rattle.desk.proofs.WalkedCall.{asked, asked-that, calls-by}
-use Rattle.desk.proofs.Places.{places-none, places-set, places-min}
+use Rattle.desk.proofs.openings.WalkedCall.{asked, asked-that, calls-by}
+use Rattle.desk.proofs.watching.Places.{places-none, places-set, places-min}
 use Rattle.desk.proofs.watch.Watch as T
 use Rattle.desk.proofs.watch.Watch.Laws as T′
 use Rattle.desk.proofs.opening.places_for as places-for

@@ -41,13 +41,13 @@ use denote.Exit.{yes}
 use Rattle.desk.specs.Watch.{padded}
 use Rattle.desk.specs.Opening.{opening}
 use Rattle.desk.specs.declared.watch.Watch.{Watch}
-use Rattle.desk.specs.declared.opening.Opened.{Opened}
-use Rattle.desk.proofs.WalkedCall.{asked, calls-by}
-use Rattle.desk.proofs.OpeningLaws.{opening-copied}
+use Rattle.desk.specs.declared.done.Opened.{Opened}
+use Rattle.desk.proofs.openings.WalkedCall.{asked, calls-by}
+use Rattle.desk.proofs.openings.OpeningLaws.{opening-copied}
 use Rattle.desk.proofs.watch.Watch as T
 use Rattle.desk.proofs.watch.Watch.Laws as T′
-use Rattle.desk.proofs.opening.Opened as O
-use Rattle.desk.proofs.opening.Opened.Laws as O′
+use Rattle.desk.proofs.done.Opened as O
+use Rattle.desk.proofs.done.Opened.Laws as O′
 use Rattle.desk.proofs.opening.copied as copied
 use Rattle.desk.proofs.opening.copied.Symbol as copied-def
 use Rattle.desk.proofs.opening.copied.Symbol.{name as #desk·opening·copied}

@@ -7,8 +7,8 @@ use borrow.Author.Needs.{needs}
 use borrow.Author.Tests.{not-true, not-false}
 use Rattle.desk.specs.Record.{openedWith}
 use Rattle.desk.specs.Opening.{refusedOpening}
-use Rattle.desk.proofs.LimitLaws.{limit-is}
-use Rattle.desk.proofs.OpeningLaws.{opening-over, opening-down, opening-up, opening-fault, opening-accepted}
+use Rattle.desk.proofs.numbers.LimitLaws.{limit-is}
+use Rattle.desk.proofs.openings.OpeningLaws.{opening-over, opening-down, opening-up, opening-fault, opening-accepted}
 use Rattle.desk.proofs.opening.open_records.Statement.{statement}
 use Rattle.desk.proofs.opening.open_records.Tie as tie
 

@@ -3,8 +3,8 @@
 use mir.Syntax.{w32}
 use mir.ValLaws.{toZ-ofZ}
 use Rattle.desk.specs.Plan.{deskAfter}
-use Rattle.desk.proofs.RefusalLaws.{accepted-as}
-use Rattle.desk.proofs.SoundLaws.{sound-parts}
+use Rattle.desk.proofs.acting.RefusalLaws.{accepted-as}
+use Rattle.desk.proofs.records.SoundLaws.{sound-parts}
 use borrow.Author.Needs.{needs}
 use Rattle.desk.proofs.plan.desk_after.Statement.{statement}
 use Rattle.desk.proofs.plan.desk_after.Tie as tie

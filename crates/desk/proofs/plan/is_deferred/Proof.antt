@@ -1,7 +1,7 @@
 -- `desk::plan::is_deferred` meets its contract.
 -- Assumes nothing.
 use mathlib.Core.Path.{_∙_}
-use Rattle.desk.proofs.ArmLaws.{routine-deferred}
+use Rattle.desk.proofs.acting.ArmLaws.{routine-deferred}
 use borrow.Author.Needs.{needs}
 use Rattle.desk.proofs.plan.is_deferred.Statement.{statement}
 use Rattle.desk.proofs.plan.is_deferred.Tie as tie

@@ -6,12 +6,12 @@ use mathlib.Core.List.{[], _∷_}
 use native.Mathlib.Omega.{arith}
 use mir.Syntax.{w32}
 use mir.ValLaws.{toZ-ofZ}
-use Rattle.desk.specs.declared.calls.Call.{Call}
+use Rattle.desk.specs.declared.call.Call.{Call}
 use Rattle.desk.specs.Command.{Command, commandFrame}
 use Rattle.desk.specs.Plan.{commandsOf}
-use Rattle.desk.proofs.FrameParts.{raise-length, clear-length}
-use Rattle.desk.proofs.PlanLaws.{watched-id, commands-length, put-one-frame}
-use Rattle.desk.proofs.RefusalLaws.{accepted-as}
+use Rattle.desk.proofs.writing.FrameParts.{raise-length, clear-length}
+use Rattle.desk.proofs.acting.PlanLaws.{watched-id, commands-length, put-one-frame}
+use Rattle.desk.proofs.acting.RefusalLaws.{accepted-as}
 use borrow.Author.Needs.{needs}
 use Rattle.desk.proofs.plan.put_commands.Statement.{statement}
 use Rattle.desk.proofs.plan.put_commands.Tie as tie

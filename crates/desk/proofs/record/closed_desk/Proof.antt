@@ -2,7 +2,7 @@
 -- Assumes nothing.
 use borrow.Author.Needs.{needs}
 use Rattle.desk.specs.Record.{closed}
-use Rattle.desk.proofs.Places.{places-none}
+use Rattle.desk.proofs.watching.Places.{places-none}
 use Rattle.desk.proofs.record.closed_desk.Statement.{statement}
 use Rattle.desk.proofs.record.closed_desk.Tie as tie
 

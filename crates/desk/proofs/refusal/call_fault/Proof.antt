@@ -5,8 +5,8 @@ use mathlib.Core.Bool.{true, false}
 use borrow.Author.Tests.{not-true, not-false}
 use Rattle.desk.specs.Record.{sound}
 use Rattle.desk.specs.Refusal.{raisesAgain, clearsNone, limitFits, idFits}
-use Rattle.desk.proofs.RefusalLaws.{fault-38, fault-32, fault-33, fault-30, fault-31, fault-0}
-use Rattle.desk.proofs.SoundLaws.{sound-parts}
+use Rattle.desk.proofs.acting.RefusalLaws.{fault-38, fault-32, fault-33, fault-30, fault-31, fault-0}
+use Rattle.desk.proofs.records.SoundLaws.{sound-parts}
 use borrow.Author.Needs.{needs}
 use Rattle.desk.proofs.refusal.call_fault.Statement.{statement}
 use Rattle.desk.proofs.refusal.call_fault.Tie as tie
@@ -39,8 +39,8 @@ within c = sym (c .before .limit-fits .ensures) ∙ not-false (c .before .limit-
 unwatched : (c : tie.Then5) → idFits (c .before .before .before .before .before .before .before .before .before .before .args .call) (c .before .before .before .before .before .before .before .before .before .before .args .d) ≡ false
 unwatched c = sym (c .before .id-fits .ensures) ∙ not-true (c .before .id-fits .result) (c .if5 .taken)
 
-listed : (c : tie.Else5) → idFits (c .before .before .before .before .before .before .before .before .before .before .args .call) (c .before .before .before .before .before .before .before .before .before .before .args .d) ≡ true
-listed c = sym (c .before .id-fits .ensures) ∙ not-false (c .before .id-fits .result) (c .if5 .left)
+isAmong : (c : tie.Else5) → idFits (c .before .before .before .before .before .before .before .before .before .before .args .call) (c .before .before .before .before .before .before .before .before .before .before .args .d) ≡ true
+isAmong c = sym (c .before .id-fits .ensures) ∙ not-false (c .before .id-fits .result) (c .if5 .left)
 
 is-sound-requires : tie.Need-is-sound-requires
 is-sound-requires c κs = search needs
@@ -73,7 +73,7 @@ returns-5 : tie.Need-returns-5
 returns-5 c = fault-31 (c .before .before .before .before .before .before .before .before .before .before .args .call) (c .before .before .before .before .before .before .before .before .before .before .args .d) (fine (c .before .before .before .before .before .before .before .before)) (first (c .before .before .before .before .before .before)) (some-stands (c .before .before .before .before)) (within (c .before .before)) (unwatched c)
 
 returns-6 : tie.Need-returns-6
-returns-6 c = fault-0 (c .before .before .before .before .before .before .before .before .before .before .args .call) (c .before .before .before .before .before .before .before .before .before .before .args .d) (fine (c .before .before .before .before .before .before .before .before)) (first (c .before .before .before .before .before .before)) (some-stands (c .before .before .before .before)) (within (c .before .before)) (listed c)
+returns-6 c = fault-0 (c .before .before .before .before .before .before .before .before .before .before .args .call) (c .before .before .before .before .before .before .before .before .before .before .args .d) (fine (c .before .before .before .before .before .before .before .before)) (first (c .before .before .before .before .before .before)) (some-stands (c .before .before .before .before)) (within (c .before .before)) (isAmong c)
 
 pub call-fault-spec : {M : Type 1} → statement M
 call-fault-spec =

@@ -2,7 +2,7 @@
 -- Assumes nothing.
 use mathlib.Core.Path.{ap}
 use mathlib.Core.Bool.{not}
-use Rattle.desk.proofs.ArmLaws.{no-clear}
+use Rattle.desk.proofs.acting.ArmLaws.{no-clear}
 use borrow.Author.Needs.{needs}
 use Rattle.desk.proofs.refusal.clears_none.Statement.{statement}
 use Rattle.desk.proofs.refusal.clears_none.Tie as tie

@@ -1,6 +1,6 @@
 -- `desk::refusal::id_fits` meets its contract.
 -- Assumes nothing.
-use Rattle.desk.proofs.ArmLaws.{no-id}
+use Rattle.desk.proofs.acting.ArmLaws.{no-id}
 use borrow.Author.Needs.{needs}
 use Rattle.desk.proofs.refusal.id_fits.Statement.{statement}
 use Rattle.desk.proofs.refusal.id_fits.Tie as tie

@@ -2,7 +2,7 @@
 -- Assumes nothing.
 use mir.Syntax.{w32}
 use mir.ValLaws.{toZ-ofZ}
-use Rattle.desk.proofs.ArmLaws.{no-limit}
+use Rattle.desk.proofs.acting.ArmLaws.{no-limit}
 use borrow.Author.Needs.{needs}
 use Rattle.desk.proofs.refusal.limit_fits.Statement.{statement}
 use Rattle.desk.proofs.refusal.limit_fits.Tie as tie

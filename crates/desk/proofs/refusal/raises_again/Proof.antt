@@ -1,6 +1,6 @@
 -- `desk::refusal::raises_again` meets its contract.
 -- Assumes nothing.
-use Rattle.desk.proofs.ArmLaws.{no-raise}
+use Rattle.desk.proofs.acting.ArmLaws.{no-raise}
 use borrow.Author.Needs.{needs}
 use Rattle.desk.proofs.refusal.raises_again.Statement.{statement}
 use Rattle.desk.proofs.refusal.raises_again.Tie as tie

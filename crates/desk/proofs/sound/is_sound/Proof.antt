@@ -3,7 +3,7 @@
 use mathlib.Core.Path.{sym, _∙_}
 use borrow.Author.Needs.{needs}
 use borrow.Author.Tests.{not-true, not-false}
-use Rattle.desk.proofs.RecordLaws.{sound-closed, sound-over, sound-limits, sound-list}
+use Rattle.desk.proofs.records.RecordLaws.{sound-closed, sound-over, sound-limits, sound-list}
 use Rattle.desk.proofs.sound.is_sound.Statement.{statement}
 use Rattle.desk.proofs.sound.is_sound.Tie as tie
 

@@ -3,8 +3,8 @@
 use mathlib.Core.Path.{refl, sym, _∙_}
 use borrow.Author.Needs.{needs}
 use borrow.Author.Tests.{not-true, not-false}
-use Rattle.desk.proofs.LimitLaws.{limit-is}
-use Rattle.desk.proofs.RecordLaws.{limits-down, limits-up}
+use Rattle.desk.proofs.numbers.LimitLaws.{limit-is}
+use Rattle.desk.proofs.records.RecordLaws.{limits-down, limits-up}
 use Rattle.desk.proofs.sound.limits_sound.Statement.{statement}
 use Rattle.desk.proofs.sound.limits_sound.Tie as tie
 

@@ -3,7 +3,7 @@
 use mathlib.Core.Path.{sym, _∙_}
 use borrow.Author.Needs.{needs}
 use borrow.Author.Tests.{not-true, not-false}
-use Rattle.desk.proofs.RecordLaws.{list-fault, list-used, list-free, list-overridden}
+use Rattle.desk.proofs.records.RecordLaws.{list-fault, list-used, list-free, list-overridden}
 use Rattle.desk.proofs.sound.list_sound.Statement.{statement}
 use Rattle.desk.proofs.sound.list_sound.Tie as tie
 

@@ -1,18 +1,16 @@
 -- `frame_cases::number::signed` is safe.
 -- Assumes nothing.
-use Prim.Native.Nat.{ℕ, zero, suc, _<_, _≤_, _-_, _+_, _^_}
+use Prim.Native.Nat.{ℕ, zero, suc, _<_, _-_, _+_, _^_}
 use mathlib.Core.Path.{_≡_, refl, sym, ap, subst, _∙_}
 use native.Mathlib.Omega.{arith}
 use lib.IntN.{ℤ, pos, negsuc, negℤ, _-ℤ_}
 use mir.Syntax.{w64}
 use mir.Val.{SFits, toZ}
 use mir.Facts.{toZ-pos}
-use Rattle.bencode.proofs.IntegerLaws.{neg-fits}
+use Rattle.bencode.proofs.scalars.IntegerLaws.{neg-fits}
 use borrow.Author.Needs.{needs}
 use Rattle.frame_cases.proofs.number.signed.Statement.{statement}
 use Rattle.frame_cases.proofs.number.signed.Tie as tie
-use Rattle.frame_cases.proofs.number.signed.Reads as reads
-use Rattle.frame_cases.proofs.number.signed.Lts as lts
 
 -- -1 - m, which stays in the range of 64 bits
 less : (m : ℕ) → negsuc 0 -ℤ pos m ≡ negℤ (pos (suc m))

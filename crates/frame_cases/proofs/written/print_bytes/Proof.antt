@@ -1,7 +1,6 @@
 -- `frame_cases::written::print_bytes` is safe and ends.
 -- Assumes nothing.
 use Prim.Native.Nat.{_-_}
-use native.Mathlib.Omega.{arith}
 use lib.ListN.{length}
 use borrow.Author.Needs.{needs}
 use Rattle.frame_cases.proofs.written.print_bytes.Statement.{statement}

@@ -1,15 +1,10 @@
 -- `frame_cases::written::print_handshake` is safe.
 -- Assumes nothing.
 use native.Mathlib.Omega.{arith}
-use lib.ListN.{length, length-take}
+use lib.ListN.{length-take}
 use borrow.Author.Needs.{needs}
 use Rattle.frame_cases.proofs.written.print_handshake.Statement.{statement}
 use Rattle.frame_cases.proofs.written.print_handshake.Tie as tie
-use Rattle.frame_cases.proofs.written.print_handshake.Reads as reads
-use Rattle.frame_cases.proofs.written.print_handshake.Lts as lts
-use Rattle.frame_cases.proofs.number.number_at.Reads as number-at-reads
-use Rattle.frame_cases.proofs.written.print_written.Reads as print-written-reads
-use Rattle.ipc.proofs.write_handshake.write_handshake.Reads as write-handshake-reads
 
 number-at-requires : tie.Need-number-at-requires
 number-at-requires c κs = search needs

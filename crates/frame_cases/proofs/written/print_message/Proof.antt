@@ -1,18 +1,10 @@
 -- `frame_cases::written::print_message` is safe.
 -- Assumes nothing.
 use native.Mathlib.Omega.{arith}
-use lib.ListN.{length, length-take}
+use lib.ListN.{length-take}
 use borrow.Author.Needs.{needs}
 use Rattle.frame_cases.proofs.written.print_message.Statement.{statement}
 use Rattle.frame_cases.proofs.written.print_message.Tie as tie
-use Rattle.frame_cases.proofs.written.print_message.Reads as reads
-use Rattle.frame_cases.proofs.written.print_message.Lts as lts
-use Rattle.bencode.proofs.bytes.byte_at.Reads as byte-at-reads
-use Rattle.frame_cases.proofs.number.number_at.Reads as number-at-reads
-use Rattle.frame_cases.proofs.written.given_of.Reads as given-of-reads
-use Rattle.frame_cases.proofs.written.key_of.Reads as key-of-reads
-use Rattle.frame_cases.proofs.written.print_written.Reads as print-written-reads
-use Rattle.ipc.proofs.write.write.Reads as write-reads
 
 byte-at-requires : tie.Need-byte-at-requires
 byte-at-requires c κs = search needs

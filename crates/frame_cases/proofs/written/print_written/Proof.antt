@@ -1,15 +1,10 @@
 -- `frame_cases::written::print_written` is safe.
 -- Assumes nothing.
 use native.Mathlib.Omega.{arith}
-use lib.ListN.{length, length-take}
+use lib.ListN.{length-take}
 use borrow.Author.Needs.{needs}
 use Rattle.frame_cases.proofs.written.print_written.Statement.{statement}
 use Rattle.frame_cases.proofs.written.print_written.Tie as tie
-use Rattle.frame_cases.proofs.written.print_written.Reads as reads
-use Rattle.frame_cases.proofs.written.print_written.Lts as lts
-use Rattle.cases.proofs.print.Reads as print-reads
-use Rattle.cases.proofs.print_number.Reads as print-number-reads
-use Rattle.frame_cases.proofs.written.print_bytes.Reads as print-bytes-reads
 
 enum-known-written : tie.Need-enum-known-written
 enum-known-written c = search needs

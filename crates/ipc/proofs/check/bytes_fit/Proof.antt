@@ -2,8 +2,8 @@
 -- Assumes nothing.
 use mathlib.Core.Path.{sym, ap, _∙_}
 use Rattle.ipc.specs.declared.keys.Class.{Class}
-use Rattle.ipc.specs.Write.{bytesFit}
-use Rattle.ipc.proofs.ClassLaws.{bytes-off}
+use Rattle.ipc.specs.Writer.{bytesFit}
+use Rattle.ipc.proofs.listed.ClassLaws.{bytes-off}
 use borrow.Author.Needs.{needs}
 use Rattle.ipc.proofs.check.bytes_fit.Statement.{statement}
 use Rattle.ipc.proofs.check.bytes_fit.Tie as tie

@@ -2,12 +2,12 @@
 -- Assumes nothing.
 use mathlib.Core.Path.{sym, ap, _∙_}
 use lib.IntN.{ℤ}
-use Rattle.bencode.specs.Integer.{within}
-use Rattle.bencode.proofs.Ranges.{same}
+use Rattle.bencode.specs.Integers.{within}
+use Rattle.bencode.proofs.scalars.Ranges.{same}
 use Rattle.ipc.specs.declared.keys.Class.{Class}
 use Rattle.ipc.specs.Format.{largestPort}
-use Rattle.ipc.specs.Write.{integerFits}
-use Rattle.ipc.proofs.ClassLaws.{integer-off}
+use Rattle.ipc.specs.Writer.{integerFits}
+use Rattle.ipc.proofs.listed.ClassLaws.{integer-off}
 use borrow.Author.Needs.{needs}
 use Rattle.ipc.proofs.check.integer_fits.Statement.{statement}
 use Rattle.ipc.proofs.check.integer_fits.Tie as tie

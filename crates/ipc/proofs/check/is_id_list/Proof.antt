@@ -2,7 +2,7 @@
 -- Assumes nothing.
 use mathlib.Core.Path.{sym, _∙_}
 use borrow.Author.Needs.{needs}
-use Rattle.ipc.proofs.CheckLaws.{ids-other, ids-end, ids-off}
+use Rattle.ipc.proofs.formats.CheckLaws.{ids-other, ids-end, ids-off}
 use Rattle.ipc.proofs.check.is_id_list.Statement.{statement}
 use Rattle.ipc.proofs.check.is_id_list.Tie as tie
 

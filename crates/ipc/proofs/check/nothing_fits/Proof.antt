@@ -1,6 +1,6 @@
 -- `ipc::check::nothing_fits` meets its contract.
 -- Assumes nothing.
-use Rattle.ipc.proofs.ClassLaws.{nothing-off}
+use Rattle.ipc.proofs.listed.ClassLaws.{nothing-off}
 use borrow.Author.Needs.{needs}
 use Rattle.ipc.proofs.check.nothing_fits.Statement.{statement}
 use Rattle.ipc.proofs.check.nothing_fits.Tie as tie

@@ -2,7 +2,7 @@
 -- Assumes nothing.
 use mathlib.Core.Path.{sym, _∙_}
 use native.Mathlib.Omega.{arith}
-use Rattle.ipc.proofs.CheckLaws.{tag-none, tag-is, tag-over}
+use Rattle.ipc.proofs.formats.CheckLaws.{tag-none, tag-is, tag-over}
 use borrow.Author.Needs.{needs}
 use Rattle.ipc.proofs.check.tag_fits.Statement.{statement}
 use Rattle.ipc.proofs.check.tag_fits.Tie as tie

@@ -1,9 +1,9 @@
 -- `ipc::check::value_fits` meets its contract.
 -- Assumes nothing.
 use mathlib.Core.Path.{sym, ap, _∙_}
-use Rattle.ipc.specs.declared.write.Given.{Given}
-use Rattle.ipc.specs.Write.{valueFits}
-use Rattle.ipc.proofs.CheckLaws.{fits-integer}
+use Rattle.ipc.specs.declared.writer.Given.{Given}
+use Rattle.ipc.specs.Writer.{valueFits}
+use Rattle.ipc.proofs.formats.CheckLaws.{fits-integer}
 use borrow.Author.Needs.{needs}
 use Rattle.ipc.proofs.check.value_fits.Statement.{statement}
 use Rattle.ipc.proofs.check.value_fits.Tie as tie

@@ -1,7 +1,7 @@
 -- `ipc::format::any_integer` meets its contract.
 -- Assumes nothing.
 use mathlib.Core.Path.{sym, _∙_}
-use Rattle.ipc.proofs.FormatLaws.{any-good, any-off}
+use Rattle.ipc.proofs.formats.FormatLaws.{any-good, any-off}
 use borrow.Author.Needs.{needs}
 use Rattle.ipc.proofs.format.any_integer.Statement.{statement}
 use Rattle.ipc.proofs.format.any_integer.Tie as tie

@@ -2,7 +2,7 @@
 -- Assumes nothing.
 use mathlib.Core.Path.{sym, ap, _∙_}
 use borrow.Author.Needs.{needs}
-use Rattle.bencode.proofs.Ranges.{same}
+use Rattle.bencode.proofs.scalars.Ranges.{same}
 use Rattle.ipc.specs.Format.{endById}
 use Rattle.ipc.specs.Ids.{torrentIdOf}
 use Rattle.ipc.proofs.format.end_by_id.Statement.{statement}

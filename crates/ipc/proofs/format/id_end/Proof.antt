@@ -2,7 +2,7 @@
 -- Assumes nothing.
 use mathlib.Core.Path.{sym, _∙_}
 use borrow.Author.Needs.{needs}
-use Rattle.ipc.proofs.FormatLaws.{id-number, id-off}
+use Rattle.ipc.proofs.formats.FormatLaws.{id-number, id-off}
 use Rattle.ipc.proofs.format.id_end.Statement.{statement}
 use Rattle.ipc.proofs.format.id_end.Tie as tie
 

@@ -1,6 +1,6 @@
 -- `ipc::format::is_up_to` meets its contract.
 -- Assumes nothing.
-use Rattle.ipc.proofs.FormatLaws.{is-low, is-high, is-in}
+use Rattle.ipc.proofs.formats.FormatLaws.{is-low, is-high, is-in}
 use native.Mathlib.Omega.{arith}
 use borrow.Author.Needs.{needs}
 use Rattle.ipc.proofs.format.is_up_to.Statement.{statement}

@@ -4,7 +4,7 @@ use mathlib.Core.Path.{sym, ap, _∙_}
 use borrow.Author.Needs.{needs}
 use Rattle.ipc.specs.declared.format.Checked.{Checked}
 use Rattle.ipc.specs.declared.reading.Value.{Value}
-use Rattle.ipc.proofs.FormatLaws.{list-other, list-good, list-off}
+use Rattle.ipc.proofs.formats.FormatLaws.{list-other, list-good, list-off}
 use Rattle.ipc.proofs.format.list_part.Statement.{statement}
 use Rattle.ipc.proofs.format.list_part.Tie as tie
 

@@ -2,8 +2,8 @@
 -- Assumes nothing.
 use mathlib.Core.Path.{sym, _∙_}
 use native.Mathlib.Omega.{arith}
-use Rattle.bencode.proofs.Ends.{string-whole-inv}
-use Rattle.ipc.proofs.FormatLaws.{text-good, text-off}
+use Rattle.bencode.proofs.walking.Ends.{string-whole-inv}
+use Rattle.ipc.proofs.formats.FormatLaws.{text-good, text-off}
 use borrow.Author.Needs.{needs}
 use Rattle.ipc.proofs.format.text_value.Statement.{statement}
 use Rattle.ipc.proofs.format.text_value.Tie as tie

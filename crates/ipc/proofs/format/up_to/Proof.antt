@@ -1,7 +1,7 @@
 -- `ipc::format::up_to` meets its contract.
 -- Assumes nothing.
 use mathlib.Core.Path.{sym, _∙_}
-use Rattle.ipc.proofs.FormatLaws.{up-in, up-out, up-off}
+use Rattle.ipc.proofs.formats.FormatLaws.{up-in, up-out, up-off}
 use borrow.Author.Needs.{needs}
 use Rattle.ipc.proofs.format.up_to.Statement.{statement}
 use Rattle.ipc.proofs.format.up_to.Tie as tie

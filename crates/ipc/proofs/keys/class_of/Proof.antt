@@ -1,6 +1,6 @@
 -- `ipc::keys::class_of` meets its contract.
 -- Assumes nothing.
-use Rattle.ipc.proofs.KeyLaws.{row-class}
+use Rattle.ipc.proofs.listed.KeyLaws.{row-class}
 use borrow.Author.Needs.{needs}
 use Rattle.ipc.proofs.keys.class_of.Statement.{statement}
 use Rattle.ipc.proofs.keys.class_of.Tie as tie

@@ -7,7 +7,7 @@ use mathlib.Core.List.{List}
 use lib.ListN.{length-take}
 use native.Mathlib.Omega.{arith}
 use Rattle.bencode.specs.Bytes.{same}
-use Rattle.ipc.proofs.KeyLaws.{table-name, table-fits}
+use Rattle.ipc.proofs.listed.KeyLaws.{table-name, table-fits}
 -- uses-end
 use borrow.Author.Needs.{needs}
 use Rattle.ipc.proofs.keys.is_key.Statement.{statement}

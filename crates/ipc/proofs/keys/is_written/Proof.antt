@@ -1,6 +1,6 @@
 -- `ipc::keys::is_written` meets its contract.
 -- Assumes nothing.
-use Rattle.ipc.proofs.KeyLaws.{row-written}
+use Rattle.ipc.proofs.listed.KeyLaws.{row-written}
 use borrow.Author.Needs.{needs}
 use Rattle.ipc.proofs.keys.is_written.Statement.{statement}
 use Rattle.ipc.proofs.keys.is_written.Tie as tie

@@ -7,7 +7,7 @@ use native.Mathlib.Numerals.{add-one}
 use native.Mathlib.Omega.{arith}
 use lib.ListN.{drop}
 use Rattle.ipc.specs.Keys.{listed, numberFrom, keyNumber}
-use Rattle.ipc.proofs.KeyLaws.{number-here, number-next, number-none, number-all}
+use Rattle.ipc.proofs.listed.KeyLaws.{number-here, number-next, number-none, number-all}
 -- uses-end
 use Rattle.ipc.proofs.keys.key_number.Statement.{statement}
 use Rattle.ipc.proofs.keys.key_number.Tie as tie

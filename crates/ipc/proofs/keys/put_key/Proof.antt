@@ -3,7 +3,7 @@
 use native.Mathlib.Omega.{arith}
 use lib.ListN.{length-take}
 use Rattle.ipc.specs.Keys.{listedAt}
-use Rattle.ipc.proofs.KeyLaws.{row-fits, row-key, put-text}
+use Rattle.ipc.proofs.listed.KeyLaws.{row-fits, row-key, put-text}
 use borrow.Author.Needs.{needs}
 use Rattle.ipc.proofs.keys.put_key.Statement.{statement}
 use Rattle.ipc.proofs.keys.put_key.Tie as tie

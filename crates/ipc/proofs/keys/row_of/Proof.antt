@@ -2,7 +2,7 @@
 -- Assumes nothing.
 use mathlib.Core.Path.{_∙_}
 use Rattle.bencode.specs.Ascii.{ascii}
-use Rattle.ipc.proofs.KeyLaws.{row-none, row-past, row-here}
+use Rattle.ipc.proofs.listed.KeyLaws.{row-none, row-past, row-here}
 use borrow.Author.Needs.{needs}
 use Rattle.ipc.proofs.keys.row_of.Statement.{statement}
 use Rattle.ipc.proofs.keys.row_of.Tie as tie

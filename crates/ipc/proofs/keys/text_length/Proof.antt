@@ -1,7 +1,7 @@
 -- `ipc::keys::text_length` meets its contract.
 -- Assumes nothing.
 use native.Mathlib.Omega.{arith}
-use Rattle.ipc.proofs.KeyLaws.{row-length, key-short}
+use Rattle.ipc.proofs.listed.KeyLaws.{row-length, key-short}
 use borrow.Author.Needs.{needs}
 use Rattle.ipc.proofs.keys.text_length.Statement.{statement}
 use Rattle.ipc.proofs.keys.text_length.Tie as tie

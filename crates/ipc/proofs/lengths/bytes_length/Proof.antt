@@ -5,7 +5,7 @@ use Prim.Native.Nat.{ℕ, _+_, min}
 use mathlib.Core.List.{List}
 use lib.ListN.{length}
 use Rattle.ipc.specs.Header.{largestPayload}
-use Rattle.ipc.proofs.ClassLaws.{bytes-text, bytes-plain}
+use Rattle.ipc.proofs.listed.ClassLaws.{bytes-text, bytes-plain}
 use borrow.Author.Needs.{needs}
 use Rattle.ipc.proofs.lengths.bytes_length.Statement.{statement}
 use Rattle.ipc.proofs.lengths.bytes_length.Tie as tie

@@ -2,7 +2,7 @@
 -- Assumes nothing.
 use native.Mathlib.Omega.{arith}
 use Rattle.ipc.specs.Keys.{keyText}
-use Rattle.ipc.proofs.LengthLaws.{string-sum}
+use Rattle.ipc.proofs.writing.LengthLaws.{string-sum}
 use borrow.Author.Needs.{needs}
 use Rattle.ipc.proofs.lengths.key_length.Statement.{statement}
 use Rattle.ipc.proofs.lengths.key_length.Tie as tie

@@ -1,7 +1,7 @@
 -- `ipc::lengths::string_length` meets its contract.
 -- Assumes nothing.
 use mathlib.Core.Path.{_∙_}
-use Rattle.ipc.proofs.LengthLaws.{string-cut}
+use Rattle.ipc.proofs.writing.LengthLaws.{string-cut}
 use borrow.Author.Needs.{needs}
 use Rattle.ipc.proofs.lengths.string_length.Statement.{statement}
 use Rattle.ipc.proofs.lengths.string_length.Tie as tie

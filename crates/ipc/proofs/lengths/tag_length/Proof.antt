@@ -2,7 +2,7 @@
 -- Assumes nothing.
 use mathlib.Core.Path.{_∙_}
 use native.Mathlib.Omega.{arith}
-use Rattle.ipc.proofs.LengthLaws.{no-tag-length, tag-length}
+use Rattle.ipc.proofs.writing.LengthLaws.{no-tag-length, tag-length}
 use borrow.Author.Needs.{needs}
 use Rattle.ipc.proofs.lengths.tag_length.Statement.{statement}
 use Rattle.ipc.proofs.lengths.tag_length.Tie as tie

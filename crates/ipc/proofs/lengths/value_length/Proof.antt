@@ -3,10 +3,10 @@
 use mathlib.Core.Path.{sym, ap, _∙_}
 use Prim.Native.Nat.{_+_, min}
 use lib.ListN.{length}
-use Rattle.ipc.specs.declared.write.Given.{Given}
+use Rattle.ipc.specs.declared.writer.Given.{Given}
 use Rattle.ipc.specs.Header.{largestPayload}
-use Rattle.ipc.specs.Write.{encodeGiven}
-use Rattle.ipc.proofs.LengthLaws.{nothing-length, integer-length}
+use Rattle.ipc.specs.Writer.{encodeGiven}
+use Rattle.ipc.proofs.writing.LengthLaws.{nothing-length, integer-length}
 use borrow.Author.Needs.{needs}
 use Rattle.ipc.proofs.lengths.value_length.Statement.{statement}
 use Rattle.ipc.proofs.lengths.value_length.Tie as tie

@@ -4,12 +4,12 @@ use mathlib.Core.Path.{_≡_, sym, ap, _∙_}
 use native.Mathlib.Omega.{arith}
 use borrow.Author.Needs.{needs}
 use Prim.Native.Nat.{ℕ}
-use Rattle.bencode.specs.declared.string.Text.{Text}
-use Rattle.bencode.specs.String.{stringAt}
-use Rattle.bencode.proofs.Ends.{string-whole-inv}
-use Rattle.bencode.proofs.ItemLaws.{item-past}
+use Rattle.bencode.specs.declared.strings.Text.{Text}
+use Rattle.bencode.specs.Strings.{stringAt}
+use Rattle.bencode.proofs.walking.Ends.{string-whole-inv}
+use Rattle.bencode.proofs.lookup.ItemLaws.{item-past}
 use Rattle.ipc.specs.Message.{tailAt, fromTag}
-use Rattle.ipc.proofs.MessageLaws.{message-no-key, message-no-value, message-keyed}
+use Rattle.ipc.proofs.frames.MessageLaws.{message-no-key, message-no-value, message-keyed}
 use Rattle.ipc.proofs.message.message.Statement.{statement}
 use Rattle.ipc.proofs.message.message.Tie as tie
 

@@ -2,7 +2,7 @@
 -- Assumes nothing.
 use mathlib.Core.Path.{sym, _∙_}
 use borrow.Author.Needs.{needs}
-use Rattle.ipc.proofs.MessageLaws.{third-end, third-no-integer, third-no-tag, third-tag, third-more}
+use Rattle.ipc.proofs.frames.MessageLaws.{third-end, third-no-integer, third-no-tag, third-tag, third-more}
 use Rattle.ipc.proofs.message.tag_at.Statement.{statement}
 use Rattle.ipc.proofs.message.tag_at.Tie as tie
 

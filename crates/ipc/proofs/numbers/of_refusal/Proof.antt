@@ -3,7 +3,7 @@
 use mathlib.Core.Path.{refl}
 use lib.Dec.{eqb}
 use borrow.Author.Needs.{needs}
-use Rattle.ipc.proofs.NumberLaws.{kind-none}
+use Rattle.ipc.proofs.frames.NumberLaws.{kind-none}
 use Rattle.ipc.proofs.numbers.of_refusal.Statement.{statement}
 use Rattle.ipc.proofs.numbers.of_refusal.Tie as tie
 

@@ -2,7 +2,7 @@
 -- Assumes nothing.
 use mathlib.Core.Path.{sym, ap, _∙_}
 use borrow.Author.Needs.{needs}
-use Rattle.bencode.proofs.Ranges.{same}
+use Rattle.bencode.proofs.scalars.Ranges.{same}
 use Rattle.ipc.specs.Answer.{contentOf}
 use Rattle.ipc.specs.declared.reading.Value.{Value}
 use Rattle.ipc.specs.Numbers.{numbered, valueNumbers}

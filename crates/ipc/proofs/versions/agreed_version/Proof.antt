@@ -2,7 +2,7 @@
 -- Assumes nothing.
 use mathlib.Core.Path.{sym, _∙_}
 use native.Mathlib.Omega.{arith}
-use Rattle.ipc.proofs.VersionLaws.{range-machine, agreed-no-first, agreed-no-second, agreed-common}
+use Rattle.ipc.proofs.frames.VersionLaws.{range-machine, agreed-no-first, agreed-no-second, agreed-common}
 use borrow.Author.Needs.{needs}
 use Rattle.ipc.proofs.versions.agreed_version.Statement.{statement}
 use Rattle.ipc.proofs.versions.agreed_version.Tie as tie

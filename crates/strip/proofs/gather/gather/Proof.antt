@@ -1,7 +1,7 @@
 -- `strip::gather::gather` meets its contract.
 -- Assumes nothing.
 use mathlib.Core.Logic.{⊎-elim}
-use Rattle.strip.proofs.GatherLaws.{gather-over, gather-placed, gather-counted}
+use Rattle.strip.proofs.records.GatherLaws.{gather-over, gather-placed, gather-counted}
 use borrow.Author.Needs.{needs}
 use Rattle.strip.proofs.gather.gather.Statement.{statement}
 use Rattle.strip.proofs.gather.gather.Tie as tie

@@ -2,7 +2,7 @@
 -- Assumes nothing.
 use denote.Ref.{now}
 use native.Mathlib.Omega.{arith}
-use Rattle.strip.proofs.LineLaws.{frames-fit, call-done}
+use Rattle.strip.proofs.printing.LineLaws.{frames-fit, call-done}
 use borrow.Author.Needs.{needs}
 use Rattle.strip.proofs.line.call_text.Statement.{statement}
 use Rattle.strip.proofs.line.call_text.Tie as tie

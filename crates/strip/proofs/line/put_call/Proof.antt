@@ -2,9 +2,9 @@
 -- Assumes nothing.
 use denote.Ref.{now}
 use native.Mathlib.Omega.{arith}
-use Rattle.bencode.proofs.PutLaws.{next-put, finish}
+use Rattle.bencode.proofs.writing.PutLaws.{next-put, finish}
 use Rattle.strip.specs.Line.{callLine}
-use Rattle.strip.proofs.LineLaws.{call-start}
+use Rattle.strip.proofs.printing.LineLaws.{call-start}
 use borrow.Author.Needs.{needs}
 use Rattle.strip.proofs.line.put_call.Statement.{statement}
 use Rattle.strip.proofs.line.put_call.Tie as tie

@@ -1,7 +1,7 @@
 -- `strip::line::put_frames` meets its contract.
 -- Assumes nothing.
 use denote.Ref.{now}
-use Rattle.strip.proofs.LineLaws.{no-frames, frames-put}
+use Rattle.strip.proofs.printing.LineLaws.{no-frames, frames-put}
 use borrow.Author.Needs.{needs}
 use Rattle.strip.proofs.line.put_frames.Statement.{statement}
 use Rattle.strip.proofs.line.put_frames.Tie as tie

@@ -2,9 +2,9 @@
 -- Assumes nothing.
 use denote.Ref.{now}
 use native.Mathlib.Omega.{arith}
-use Rattle.bencode.proofs.PutLaws.{next-put}
+use Rattle.bencode.proofs.writing.PutLaws.{next-put}
 use Rattle.strip.specs.Line.{wordText}
-use Rattle.strip.proofs.LineLaws.{word-start, word-done}
+use Rattle.strip.proofs.printing.LineLaws.{word-start, word-done}
 use borrow.Author.Needs.{needs}
 use Rattle.strip.proofs.line.word_text.Statement.{statement}
 use Rattle.strip.proofs.line.word_text.Tie as tie

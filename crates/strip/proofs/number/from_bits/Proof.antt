@@ -8,7 +8,7 @@ use mir.Syntax.{w32}
 use mir.Val.{SFits, toZ, ofZ}
 use mir.Facts.{toZ-pos}
 use mir.ValLaws.{toZ-ofZ}
-use Rattle.strip.proofs.NumberLaws.{difference, below-fits, signed-low, signed-high}
+use Rattle.strip.proofs.records.NumberLaws.{difference, below-fits, signed-low, signed-high}
 use borrow.Author.Needs.{needs}
 use Rattle.strip.proofs.number.from_bits.Statement.{statement}
 use Rattle.strip.proofs.number.from_bits.Tie as tie

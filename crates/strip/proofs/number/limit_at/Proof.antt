@@ -2,7 +2,7 @@
 -- Assumes nothing.
 use mathlib.Core.Path.{ap, _∙_}
 use Rattle.strip.specs.Number.{signed}
-use Rattle.strip.proofs.NumberLaws.{machine}
+use Rattle.strip.proofs.records.NumberLaws.{machine}
 use borrow.Author.Needs.{needs}
 use Rattle.strip.proofs.number.limit_at.Statement.{statement}
 use Rattle.strip.proofs.number.limit_at.Tie as tie

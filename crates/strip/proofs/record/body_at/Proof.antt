@@ -3,8 +3,8 @@
 use mathlib.Core.Path.{sym, ap, _∙_}
 use native.Mathlib.Omega.{arith}
 use Rattle.strip.specs.declared.record.Record.{Record}
-use Rattle.strip.proofs.NumberLaws.{machine}
-use Rattle.strip.proofs.RecordLaws.{body-limits, body-watch, body-call, at-limits, at-clear, at-watch, at-call}
+use Rattle.strip.proofs.records.NumberLaws.{machine}
+use Rattle.strip.proofs.records.RecordLaws.{body-limits, body-watch, body-call, at-limits, at-clear, at-watch, at-call}
 use borrow.Author.Needs.{needs}
 use Rattle.strip.proofs.record.body_at.Statement.{statement}
 use Rattle.strip.proofs.record.body_at.Tie as tie

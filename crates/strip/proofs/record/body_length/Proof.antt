@@ -2,7 +2,7 @@
 -- Assumes nothing.
 use mathlib.Core.Path.{sym}
 use native.Mathlib.Omega.{arith}
-use Rattle.strip.proofs.RecordLaws.{body-limits, body-clear, body-watch, body-call}
+use Rattle.strip.proofs.records.RecordLaws.{body-limits, body-clear, body-watch, body-call}
 use Rattle.strip.proofs.record.body_length.Statement.{statement}
 use Rattle.strip.proofs.record.body_length.Tie as tie
 

@@ -1,9 +1,9 @@
 -- `strip::record::call_at` meets its contract.
 -- Assumes nothing.
 use mathlib.Core.Path.{ap, _∙_}
-use Rattle.desk.specs.declared.calls.Call.{Call}
-use Rattle.strip.proofs.NumberLaws.{machine}
-use Rattle.strip.proofs.RecordLaws.{call-down, call-up, call-start, call-stop, call-raise}
+use Rattle.desk.specs.declared.call.Call.{Call}
+use Rattle.strip.proofs.records.NumberLaws.{machine}
+use Rattle.strip.proofs.records.RecordLaws.{call-down, call-up, call-start, call-stop, call-raise}
 use borrow.Author.Needs.{needs}
 use Rattle.strip.proofs.record.call_at.Statement.{statement}
 use Rattle.strip.proofs.record.call_at.Tie as tie

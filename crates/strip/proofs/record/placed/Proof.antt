@@ -1,7 +1,7 @@
 -- `strip::record::placed` meets its contract.
 -- Assumes nothing.
 use mathlib.Core.Path.{_∙_}
-use Rattle.strip.proofs.RecordLaws.{placed-fault, placed-other}
+use Rattle.strip.proofs.records.RecordLaws.{placed-fault, placed-other}
 use borrow.Author.Needs.{needs}
 use Rattle.strip.proofs.record.placed.Statement.{statement}
 use Rattle.strip.proofs.record.placed.Tie as tie

@@ -1,7 +1,7 @@
 -- `strip::record::record_at` meets its contract.
 -- Assumes nothing.
 use mathlib.Core.Path.{sym, _∙_}
-use Rattle.strip.proofs.RecordLaws.{record-long, record-end, record-whole}
+use Rattle.strip.proofs.records.RecordLaws.{record-long, record-end, record-whole}
 use borrow.Author.Needs.{needs}
 use Rattle.strip.proofs.record.record_at.Statement.{statement}
 use Rattle.strip.proofs.record.record_at.Tie as tie

@@ -6,7 +6,7 @@ use borrow.Author.Tests.{not-true, not-false}
 use lib.Dec.{eqb}
 use Rattle.bencode.specs.Bytes.{byteAt}
 use Rattle.strip.specs.Record.{mayStand, bodyLength}
-use Rattle.strip.proofs.RecordLaws.{whole-stray, whole-cut, whole-there}
+use Rattle.strip.proofs.records.RecordLaws.{whole-stray, whole-cut, whole-there}
 use borrow.Author.Needs.{needs}
 use Rattle.strip.proofs.record.whole_at.Statement.{statement}
 use Rattle.strip.proofs.record.whole_at.Tie as tie

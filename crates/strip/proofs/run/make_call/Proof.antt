@@ -3,7 +3,7 @@
 use mathlib.Core.Path.{_≡_, sym}
 use lib.ListN.{length}
 use lib.Seq.{length-take-le}
-use Rattle.strip.proofs.AnswerLaws.{answer-within, answer-fits, performed-is}
+use Rattle.strip.proofs.running.AnswerLaws.{answer-within, answer-fits, performed-is}
 use borrow.Author.Needs.{needs}
 use Rattle.strip.proofs.run.make_call.Statement.{statement}
 use Rattle.strip.proofs.run.make_call.Tie as tie

@@ -3,7 +3,7 @@
 use mir.Syntax.{w32}
 use mir.ValLaws.{toZ-ofZ}
 use Rattle.bencode.specs.Ascii.{ascii}
-use Rattle.strip.proofs.RunLaws.{opened-is}
+use Rattle.strip.proofs.running.RunLaws.{opened-is}
 use borrow.Author.Needs.{needs}
 use Rattle.strip.proofs.run.open_desk.Statement.{statement}
 use Rattle.strip.proofs.run.open_desk.Tie as tie

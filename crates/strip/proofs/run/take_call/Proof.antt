@@ -1,7 +1,7 @@
 -- `strip::run::take_call` meets its contract.
 -- Assumes nothing.
 use mathlib.Core.Path.{sym, _∙_}
-use Rattle.strip.proofs.RunLaws.{call-open, call-shut}
+use Rattle.strip.proofs.running.RunLaws.{call-open, call-shut}
 use borrow.Author.Needs.{needs}
 use Rattle.strip.proofs.run.take_call.Statement.{statement}
 use Rattle.strip.proofs.run.take_call.Tie as tie

@@ -2,7 +2,7 @@
 -- Assumes nothing.
 use mathlib.Core.Path.{sym, ap, _∙_}
 use Rattle.strip.specs.Run.{silent}
-use Rattle.strip.proofs.RunLaws.{end-open, end-shut}
+use Rattle.strip.proofs.running.RunLaws.{end-open, end-shut}
 use borrow.Author.Needs.{needs}
 use Rattle.strip.proofs.run.take_end.Statement.{statement}
 use Rattle.strip.proofs.run.take_end.Tie as tie

@@ -1,6 +1,6 @@
 -- `desk::limit::Limit::new` meets its contract.
 -- Assumes nothing.
-use Rattle.desk.proofs.LimitLaws.{limit-low, limit-high, limit-within}
+use Rattle.desk.proofs.numbers.LimitLaws.{limit-low, limit-high, limit-within}
 use Rattle.desk.proofs.limit.Limit.new.Statement.{statement}
 use Rattle.desk.proofs.limit.Limit.new.Tie as tie
 

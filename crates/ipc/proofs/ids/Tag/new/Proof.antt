@@ -2,7 +2,7 @@
 -- Assumes nothing.
 use mathlib.Core.Path.{refl}
 use native.Mathlib.Omega.{arith}
-use Rattle.bencode.proofs.Ranges.{same, too-low, too-high, in-range, in-naturals}
+use Rattle.bencode.proofs.scalars.Ranges.{same, too-low, too-high, in-range, in-naturals}
 use Rattle.ipc.specs.Ids.{tagOf}
 use Rattle.ipc.proofs.ids.Tag.new.Statement.{statement}
 use Rattle.ipc.proofs.ids.Tag.new.Tie as tie

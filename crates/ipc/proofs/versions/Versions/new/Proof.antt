@@ -1,8 +1,8 @@
 -- `ipc::versions::Versions::new` meets its contract.
 -- Assumes nothing.
 use native.Mathlib.Omega.{arith}
-use Rattle.bencode.proofs.Ranges.{same}
-use Rattle.ipc.proofs.VersionLaws.{range-low, range-empty, range-high, range-good, range-naturals}
+use Rattle.bencode.proofs.scalars.Ranges.{same}
+use Rattle.ipc.proofs.frames.VersionLaws.{range-low, range-empty, range-high, range-good, range-naturals}
 use Rattle.ipc.proofs.versions.Versions.new.Statement.{statement}
 use Rattle.ipc.proofs.versions.Versions.new.Tie as tie
 

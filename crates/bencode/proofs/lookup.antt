@@ -1,0 +1,4 @@
+pub mod SkipLaws
+pub mod EntryLaws
+pub mod ItemLaws
+pub mod FieldLaws

@@ -1,0 +1,4 @@
+pub mod Table
+pub mod NumeralLaws
+pub mod DigitLaws
+pub mod DecimalLaws

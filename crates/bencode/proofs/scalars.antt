@@ -1,0 +1,4 @@
+pub mod Ranges
+pub mod SignedLaws
+pub mod IntegerLaws
+pub mod StringLaws

@@ -1,0 +1,4 @@
+pub mod BeginsLaws
+pub mod Equality
+pub mod Order
+pub mod LoopLaws

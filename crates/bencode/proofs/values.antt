@@ -1,0 +1,4 @@
+pub mod Encodings
+pub mod ScalarReads
+pub mod Sound
+pub mod Complete

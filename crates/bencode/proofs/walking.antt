@@ -1,0 +1,5 @@
+pub mod DepthLaws
+pub mod Ends
+pub mod WalkLaws
+pub mod KeyLaws
+pub mod FirstBytes

@@ -1,0 +1,174 @@
+-- The keys of a dictionary, as its walker finds them again, are those that the definition keeps.
+-- Assumes nothing.
+use Prim.Native.Nat.{ℕ, _≤_, _<_}
+use mathlib.Core.Path.{_≡_, refl, sym, ap, subst, _∙_}
+use mathlib.Core.Bool.{Bool, true, false, cond, _||_}
+use mathlib.Core.List.{List, [], _∷_}
+use native.Mathlib.Omega.{arith}
+use borrow.Author.Tests.{le-leb, lt-leb, lt-ltb, le-ltb}
+use lib.Dec.{leb}
+use Rattle.bencode.specs.declared.entry.Entry.{Entry}
+use Rattle.bencode.specs.declared.key.Seen.{Seen}
+use Rattle.bencode.specs.declared.key.KeyCheck.{KeyCheck}
+use Rattle.bencode.specs.declared.strings.Text.{Text}
+use Rattle.bencode.specs.declared.fault.Walk.{Walk}
+use Rattle.bencode.specs.declared.profile.Profile.{Profile}
+use Rattle.bencode.specs.Strings.{stringAt}
+use Rattle.bencode.specs.Bytes.{part, same, less}
+use Rattle.bencode.specs.Key.{isUsed, isAbove, orderFault, keyFault}
+use Rattle.bencode.specs.Walk.{valueAt}
+use Rattle.bencode.specs.Skip.{skipValue}
+use Rattle.bencode.specs.Entry.{entryAt}
+use Rattle.bencode.specs.KeySearch.{foundBefore, usedAt, aboveText, aboveAt, unsorted, keyAt}
+use Rattle.bencode.specs.Loop.{Past}
+use Rattle.bencode.proofs.walking.Ends.{string-whole-inv}
+use Rattle.bencode.proofs.walking.WalkLaws.{value-ends}
+use Rattle.bencode.proofs.sequences.Order.{clash, same-refl, less-irrefl, Under, above-all, above-unused, not-above, under-above, used-head, used-tail}
+use Rattle.bencode.proofs.lookup.SkipLaws.{value-skips}
+use Rattle.bencode.proofs.lookup.EntryLaws.{find-here, find-more}
+
+-- the keys of the entries from an offset up to another, the latest first, where `value` walks a value
+pub data Earlier (value : ℕ → Walk) (s : List ℕ) (first : ℕ) : ℕ → List (List ℕ) → Type 0 where
+  none : Earlier value s first first []
+  more : {at start end to : ℕ} {keys : List (List ℕ)} → Earlier value s first at keys → stringAt s at ≡ Text.Bytes start end → value end ≡ Walk.End to → Earlier value s first to (part s start end ∷ keys)
+
+-- an entry ends after where it starts
+entry-past : (p : Profile) (levels : ℕ) (s : List ℕ) (at start end to : ℕ) → stringAt s at ≡ Text.Bytes start end → valueAt p levels s end ≡ Walk.End to → Past s at to
+entry-past p levels s at start end to k v = let w = string-whole-inv s at start end k in omega (arith, value-ends p levels s end to v)
+
+-- a search that has passed the entries up to an offset: it found the key among theirs, or goes on there
+abbrev Passed : List ℕ → List ℕ → ℕ → ℕ → Bool → Type 0
+Passed s key first at true = (v : ℕ) × (v ≤ at) × (entryAt s key first ≡ Entry.At v)
+Passed s key first at false = entryAt s key first ≡ entryAt s key at
+
+module _ (p : Profile) (levels : ℕ) (s : List ℕ) (first : ℕ) (key : List ℕ) where
+  find-passed : (at : ℕ) (keys : List (List ℕ)) → Earlier (valueAt p levels s) s first at keys → Passed s key first at (isUsed key keys)
+  unfolding isUsed
+  find-passed at keys none = refl
+  find-passed at keys (more {at = k} {start = start} {end = end} {keys = ks} c x v) = go (isUsed key ks) (find-passed k ks c) (same (part s start end) key) refl
+    where
+      skipped : skipValue s end ≡ at
+      skipped = value-skips s p levels end at v 0
+
+      past : (k < end) × (end < at)
+      past = let w = string-whole-inv s k start end x in omega (arith, value-ends p levels s end at v)
+
+      go : (u : Bool) → Passed s key first k u → (t : Bool) → same (part s start end) key ≡ t → Passed s key first at (t || u)
+      go true (j, l, e) true q = (j, omega (arith, past), e)
+      go true (j, l, e) false q = (j, omega (arith, past), e)
+      go false e true q = (end, omega (arith, past), e ∙ sym (find-here s key k start end x q))
+      go false e false q = e ∙ sym (find-more s key k start end x q) ∙ ap (λ (j : ℕ). entryAt s key j) skipped
+
+-- the search finds the key at an offset itself, unless an earlier one is equal
+used-agrees : (p : Profile) (levels : ℕ) (s : List ℕ) (first at : ℕ) (keys : List (List ℕ)) → Earlier (valueAt p levels s) s first at keys → (start end : ℕ) → stringAt s at ≡ Text.Bytes start end → usedAt s first (part s start end) end ≡ isUsed (part s start end) keys
+unfolding usedAt
+used-agrees p levels s first at keys c start end x = go (isUsed (part s start end) keys) (find-passed p levels s first (part s start end) at keys c)
+  where
+    past : at < end
+    past = let w = string-whole-inv s at start end x in omega arith
+
+    go : (t : Bool) → Passed s (part s start end) first at t → foundBefore end (entryAt s (part s start end) first) ≡ t
+    go true (v, l, e) = rw (e, lt-ltb v end (omega (arith, past))) refl
+    go false e = rw (e, ← find-here s (part s start end) at start end x (same-refl (part s start end)), le-ltb end end (omega arith)) refl
+
+-- ---- what a dictionary's walk keeps of its keys
+-- the key at an offset is one of the keys, and none is above it; or there are no keys
+pub data Top (s : List ℕ) (greatest : ℕ) (keys : List (List ℕ)) : Type 0 where
+  empty : keys ≡ [] → Top s greatest keys
+  top : (start end : ℕ) → stringAt s greatest ≡ Text.Bytes start end → isUsed (part s start end) keys ≡ true → Under (part s start end) keys → Top s greatest keys
+
+pub record Kept (value : ℕ → Walk) (s : List ℕ) (k : Seen) (at : ℕ) (keys : List (List ℕ)) : Type 0 where
+  pub earlier : Earlier value s (k .first) at keys
+  pub highest : Top s (k .greatest) keys
+
+pub kept-none : (value : ℕ → Walk) (s : List ℕ) (from : ℕ) → Kept value s (record { first = from; greatest = from }) from []
+kept-none value s from = record { earlier = none; highest = empty refl }
+
+earlier-forward : (p : Profile) (levels : ℕ) (s : List ℕ) (first at : ℕ) (keys : List (List ℕ)) → Earlier (valueAt p levels s) s first at keys → first ≤ at
+earlier-forward p levels s first at keys none = omega arith
+earlier-forward p levels s first at keys (more {at = k} {start = start} {end = end} {keys = ks} c x v) = omega (arith, earlier-forward p levels s first k ks c, entry-past p levels s k start end at x v)
+
+module _ (p : Profile) (levels : ℕ) (s : List ℕ) (k : Seen) (at : ℕ) (keys : List (List ℕ)) (kept : Kept (valueAt p levels s) s k at keys) where
+  above-agrees : (key : List ℕ) → aboveAt s k at key ≡ isAbove key keys
+  unfolding aboveAt isAbove
+  above-agrees key = by-keys (k .first) at keys (kept .earlier) (kept .highest)
+    where
+      by-top : (keys : List (List ℕ)) → (keys ≡ [] → ⊥) → Top s (k .greatest) keys → aboveText s key (stringAt s (k .greatest)) ≡ isAbove key keys
+      by-top keys h (empty e) = absurd (h e)
+      by-top keys h (top start end x u v) = rw x (go (less (part s start end) key) refl)
+        where
+          go : (t : Bool) → less (part s start end) key ≡ t → t ≡ isAbove key keys
+          go true q = sym (above-all (part s start end) key keys v q)
+          go false q = sym (not-above (part s start end) key keys u q)
+
+      by-keys : (first at : ℕ) (keys : List (List ℕ)) → Earlier (valueAt p levels s) s first at keys → Top s (k .greatest) keys → cond (leb at first) true (aboveText s key (stringAt s (k .greatest))) ≡ isAbove key keys
+      by-keys first at keys none t = rw (le-leb first first (omega arith)) refl
+      by-keys first at keys (more {at = j} {start = start} {end = end} {keys = ks} c x v) t =
+          rw (lt-leb at first (omega (arith, earlier-forward p levels s first j ks c, entry-past p levels s j start end at x v)))
+          (by-top (part s start end ∷ ks) (λ e. let z : _≡_ {A = ℕ} 0 1 = cc in omega arith) t)
+
+  module _ (start end : ℕ) (text : stringAt s at ≡ Text.Bytes start end) where
+    -- what is kept after a key that is allowed
+    kept-above : isAbove (part s start end) keys ≡ true → (to : ℕ) → valueAt p levels s end ≡ Walk.End to → Kept (valueAt p levels s) s (record { first = k .first; greatest = at }) to (part s start end ∷ keys)
+    kept-above h to v = record { earlier = more (kept .earlier) text v; highest = top start end text (used-head (part s start end) keys) (less-irrefl (part s start end), under-above (part s start end) keys h) }
+
+    kept-below : isAbove (part s start end) keys ≡ false → (to : ℕ) → valueAt p levels s end ≡ Walk.End to → Kept (valueAt p levels s) s k to (part s start end ∷ keys)
+    kept-below h to v = record { earlier = more (kept .earlier) text v; highest = go keys h (kept .highest) }
+      where
+        go : (keys : List (List ℕ)) → isAbove (part s start end) keys ≡ false → Top s (k .greatest) keys → Top s (k .greatest) (part s start end ∷ keys)
+        go keys h (empty e) = clash (isAbove (part s start end) keys) (rw e (unfold isAbove in refl)) h
+        go keys h (top a b x u v) = top a b x (used-tail (part s a b) (part s start end) keys u) (under (less (part s a b) (part s start end)) refl, v)
+          where
+            under : (t : Bool) → less (part s a b) (part s start end) ≡ t → t ≡ false
+            under true q = clash (isAbove (part s start end) keys) (above-all (part s a b) (part s start end) keys v q) h
+            under false q = refl
+
+    pub key-allowed : (seen : Seen) → keyAt p s k at (part s start end) end ≡ KeyCheck.Allowed seen → (keyFault p keys (part s start end) ≡ 0) × ((to : ℕ) → valueAt p levels s end ≡ Walk.End to → Kept (valueAt p levels s) s seen to (part s start end ∷ keys))
+    unfolding keyAt keyFault
+    key-allowed seen e =
+        go (isAbove (part s start end) keys) refl (isUsed (part s start end) keys) refl p
+        (rw (above-agrees (part s start end), used-agrees p levels s (k .first) at keys (kept .earlier) start end text) at e)
+      where
+        go : (t : Bool) → isAbove (part s start end) keys ≡ t → (u : Bool) → isUsed (part s start end) keys ≡ u → (q : Profile) → cond t (KeyCheck.Allowed (record { first = k .first; greatest = at })) (cond u (KeyCheck.Refused 8) (unsorted q k)) ≡ KeyCheck.Allowed seen
+            → (cond u 8 (orderFault q t) ≡ 0) × ((to : ℕ) → valueAt p levels s end ≡ Walk.End to → Kept (valueAt p levels s) s seen to (part s start end ∷ keys))
+        go true h true c q e = clash (isUsed (part s start end) keys) c (above-unused (part s start end) keys h)
+        go true h false c Profile.Loose e = let n : record { first = k .first; greatest = at } ≡ seen = cc in (refl, λ to v. subst (λ (x : Seen). Kept (valueAt p levels s) s x to (part s start end ∷ keys)) n (kept-above h to v))
+        go true h false c Profile.Strict e = let n : record { first = k .first; greatest = at } ≡ seen = cc in (refl, λ to v. subst (λ (x : Seen). Kept (valueAt p levels s) s x to (part s start end ∷ keys)) n (kept-above h to v))
+        go false h true c q e = let z : _≡_ {A = ℕ} 0 1 = cc in absurd (omega arith)
+        go false h false c Profile.Strict e = let z : _≡_ {A = ℕ} 0 1 = cc in absurd (omega arith)
+        go false h false c Profile.Loose e = let n : k ≡ seen = cc in (refl, λ to v. subst (λ (x : Seen). Kept (valueAt p levels s) s x to (part s start end ∷ keys)) n (kept-below h to v))
+
+    pub key-refused : (code : ℕ) → keyAt p s k at (part s start end) end ≡ KeyCheck.Refused code → (keyFault p keys (part s start end) ≡ code) × (code ≡ 0 → ⊥)
+    unfolding keyAt keyFault
+    key-refused code e =
+        go (isAbove (part s start end) keys) (isUsed (part s start end) keys) p
+        (rw (above-agrees (part s start end), used-agrees p levels s (k .first) at keys (kept .earlier) start end text) at e)
+      where
+        go : (t u : Bool) (q : Profile) → cond t (KeyCheck.Allowed (record { first = k .first; greatest = at })) (cond u (KeyCheck.Refused 8) (unsorted q k)) ≡ KeyCheck.Refused code → (cond u 8 (orderFault q t) ≡ code) × (code ≡ 0 → ⊥)
+        go true u q e = let z : _≡_ {A = ℕ} 0 1 = cc in absurd (omega arith)
+        go false true q e = let n : 8 ≡ code = cc in omega arith
+        go false false Profile.Loose e = let z : _≡_ {A = ℕ} 0 1 = cc in absurd (omega arith)
+        go false false Profile.Strict e = let n : 11 ≡ code = cc in omega arith
+
+-- ---- each way through the check of a key
+module _ (s : List ℕ) (k : Seen) (at : ℕ) (key : List ℕ) where
+  pub above-none : at ≤ k .first → true ≡ aboveAt s k at key
+  unfolding aboveAt
+  above-none h = rw (le-leb at (k .first) h) refl
+
+  pub above-text : (x : Text) → k .first < at → stringAt s (k .greatest) ≡ x → aboveText s key x ≡ aboveAt s k at key
+  unfolding aboveAt
+  above-text x h e = rw (lt-leb at (k .first) h, e) refl
+
+  module _ (end : ℕ) (p : Profile) where
+    pub key-above-all : aboveAt s k at key ≡ true → KeyCheck.Allowed (record { first = k .first; greatest = at }) ≡ keyAt p s k at key end
+    unfolding keyAt
+    key-above-all a = rw a refl
+
+    pub key-again : aboveAt s k at key ≡ false → usedAt s (k .first) key end ≡ true → KeyCheck.Refused 8 ≡ keyAt p s k at key end
+    unfolding keyAt
+    key-again a u = rw (a, u) refl
+
+    pub key-unsorted : (q : Profile) → p ≡ q → aboveAt s k at key ≡ false → usedAt s (k .first) key end ≡ false → unsorted q k ≡ keyAt p s k at key end
+    unfolding keyAt
+    key-unsorted q e a u = rw (a, u, e) refl

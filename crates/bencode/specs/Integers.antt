@@ -1,0 +1,62 @@
+-- Pinned by `ReadsInteger`; the range and the offset of a fault are to be believed. Integers: `i`, an optional `-`, decimal
+-- digits, `e`; no leading zero, no `-0` (document 01, 'The frame').
+-- Assumes nothing.
+use Prim.Native.Nat.{ℕ, _+_, _^_, _<_}
+use mathlib.Core.Bool.{Bool, true, false, cond, _&&_}
+use mathlib.Core.List.{List}
+use lib.IntN.{ℤ, pos, negℤ}
+use lib.Signed.{mag, leZ}
+use lib.Dec.{ltb, eqb}
+use Rattle.bencode.specs.declared.numeral.Decimal.{Decimal}
+use Rattle.bencode.specs.declared.integers.Number.{Number}
+use Rattle.bencode.specs.declared.fault.Walk.{Walk}
+use Rattle.bencode.specs.Bytes.{letterE, letterI, minus, digit0, byteAt}
+use Rattle.bencode.specs.Fault.{fault}
+use Rattle.bencode.specs.Numeral.{numeralAt}
+
+-- an integer with a sign
+abbrev pub signed : Bool → ℕ → ℤ
+signed true n = negℤ (pos n)
+signed false n = pos n
+
+-- the range of 64 bits, from -2 ^ 63 to 2 ^ 63 - 1: `mag` is n of both n and -(n + 1)
+abbrev pub rangeBound : ℕ
+rangeBound = 2 ^ 63
+
+abbrev pub InRange : ℤ → Type 0
+InRange z = mag z < rangeBound
+
+-- is an integer from one number to another
+abbrev pub within : ℕ → ℕ → ℤ → Bool
+within low high z = leZ (pos low) z && leZ z (pos high)
+
+-- the integer z whose `i` is at an offset, where it is in the range; else 6 at the `i`
+abbrev pub inRange : ℕ → ℤ → ℕ → Number
+inRange at z end = cond (ltb (mag z) rangeBound) (Number.Integer z end) (Number.Fault (fault 6 at))
+
+-- the integer whose digits, from an offset on, are the numeral n: its form is judged before its range
+abbrev pub integerOf : List ℕ → ℕ → ℕ → Bool → Decimal → Number
+integerOf s at from negative n =
+    cond (eqb (n .end) from) (Number.Fault (fault 5 from))
+    (cond (eqb (byteAt s (n .end)) letterE)
+    (inRange at (signed negative (n .number)) (n .end + 1))
+    (Number.Fault (fault 5 (n .end))))
+
+unfoldable pub integerFrom : List ℕ → ℕ → ℕ → Bool → Number
+integerFrom s at from negative = integerOf s at from negative (numeralAt s from)
+
+-- the integer at an offset: its value and the offset after it, or the fault
+unfoldable pub integerAt : List ℕ → ℕ → Number
+integerAt s at =
+    cond (eqb (byteAt s at) letterI)
+    (cond (eqb (byteAt s (at + 1)) minus)
+    (cond (eqb (byteAt s (at + 2)) digit0)
+    (Number.Fault (fault 5 (at + 2)))
+    (integerFrom s at (at + 2) true))
+    (integerFrom s at (at + 1) false))
+    (Number.Fault (fault 5 at))
+
+-- the offset after an integer
+abbrev pub numberEnd : Number → Walk
+numberEnd (Number.Integer z end) = Walk.End end
+numberEnd (Number.Fault f) = Walk.Fault f

@@ -1,0 +1,4 @@
+pub mod RefusalLaws
+pub mod PlanLaws
+pub mod ArmLaws
+pub mod CallLaws

@@ -1,0 +1,4 @@
+pub mod CommandLaws
+pub mod ReadsCommands
+pub mod Overrides
+pub mod Steps

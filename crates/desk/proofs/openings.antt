@@ -1,0 +1,3 @@
+pub mod WalkedCall
+pub mod OpeningLaws
+pub mod AcceptedOpening

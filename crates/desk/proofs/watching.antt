@@ -1,0 +1,4 @@
+pub mod Places
+pub mod Scans
+pub mod WatchLists
+pub mod FilteredIds

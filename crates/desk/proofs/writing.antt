@@ -1,0 +1,5 @@
+pub mod FrameLengths
+pub mod Writes
+pub mod PutFrames
+pub mod FrameParts
+pub mod ListParts

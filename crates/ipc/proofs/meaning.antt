@@ -1,0 +1,4 @@
+pub mod Means
+pub mod Messages
+pub mod Handshakes
+pub mod Inverts

@@ -1,0 +1,3 @@
+pub mod LengthLaws
+pub mod WriteLaws
+pub mod WriteHandshakeLaws

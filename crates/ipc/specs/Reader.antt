@@ -1,0 +1,52 @@
+-- Pinned by `AnswersByRow`. The reader: what a frame at the front of bytes comes to, in document 01's order of refusals.
+-- Assumes nothing.
+use Prim.Native.Nat.{ℕ, _+_}
+use mathlib.Core.Bool.{cond}
+use mathlib.Core.List.{List}
+use lib.Dec.{eqb, leb}
+use lib.ListN.{length}
+use Rattle.bencode.specs.declared.fault.Walk.{Walk}
+use Rattle.bencode.specs.declared.profile.Profile.{Profile}
+use Rattle.bencode.specs.Bytes.{letterD, letterL, byteAt, part}
+use Rattle.bencode.specs.Walk.{payloadAt}
+use Rattle.ipc.specs.declared.header.Header.{Header}
+use Rattle.ipc.specs.declared.header.Sized.{Sized}
+use Rattle.ipc.specs.declared.reading.Reading.{Reading}
+use Rattle.ipc.specs.Answer.{Answer, answerOf}
+use Rattle.ipc.specs.Header.{headerLength, readHeader, sized}
+use Rattle.ipc.specs.Message.{messageReading}
+use Rattle.ipc.specs.Handshake.{handshakeReading}
+
+-- what is read of one bencoded value, by its first byte
+abbrev pub byKind : List ℕ → Reading
+byKind p = cond (eqb (byteAt p 0) letterD) (handshakeReading p) (cond (eqb (byteAt p 0) letterL) (messageReading p) Reading.NoMessage)
+
+abbrev pub walked : List ℕ → Walk → Reading
+walked p (Walk.End end) = byKind p
+walked p (Walk.Fault f) = Reading.Payload f
+
+-- what is read of a payload
+unfoldable pub payloadReading : List ℕ → Reading
+payloadReading p = walked p (payloadAt Profile.Loose p)
+
+-- what is read of a frame whose payload has a length
+unfoldable pub lengthReading : List ℕ → ℕ → Reading
+lengthReading s n = cond (leb (headerLength + n) (length s)) (payloadReading (part s headerLength (headerLength + n))) Reading.Incomplete
+
+abbrev pub bySize : List ℕ → Sized → Reading
+bySize s (Sized.Length n) = lengthReading s (n .0)
+bySize s Sized.OverLimit = Reading.OverLimit
+bySize s Sized.OverProtocol = Reading.OverProtocol
+
+abbrev pub byHeader : List ℕ → Header → Reading
+byHeader s (Header.Length n) = bySize s (sized n)
+byHeader s (Header.NoDigit at) = Reading.NoDigit at
+byHeader s Header.Short = Reading.Incomplete
+
+-- what is read of the frame at the front of bytes
+unfoldable pub frameReading : List ℕ → Reading
+frameReading s = byHeader s (readHeader s)
+
+-- the answer to it, as document 01 has it
+unfoldable pub readFrame : List ℕ → Answer
+readFrame s = answerOf (frameReading s)

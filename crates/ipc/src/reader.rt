@@ -1,0 +1,67 @@
+// The reader of frames.
+ghost use mathlib.Core.Path.{_≡_};
+ghost use Prim.Native.Nat.{_≤_};
+ghost use lib.ListN.{length};
+ghost use Rattle.ipc.specs.Header.{largestPayload};
+ghost use Rattle.ipc.specs.Answer.{answerOf};
+ghost use Rattle.ipc.specs.Reader.{payloadReading, lengthReading, frameReading, readFrame};
+use super::handshake::handshake;
+use super::header::HEADER_LENGTH;
+use super::header::Header;
+use super::header::PayloadLength;
+use super::header::Sized;
+use super::header::read_header;
+use super::message::message;
+use super::reading::Reading;
+use bencode::Profile;
+use bencode::Walk;
+use bencode::byte_at;
+use bencode::payload;
+
+// The answer for a payload.
+fn read_payload(p: &[u8]) -> Reading
+    requires { ⌜ length (now p) ≤ largestPayload ⌝ }
+    ensures { λ r. ⌜ r ≡ payloadReading (now (p .entry)) ⌝ }
+{
+    match payload(p, Profile::Loose) {
+        Walk::Fault(f) => Reading::Payload(f),
+        Walk::End(_) => {
+            let b = byte_at(p, 0);
+            if b == b'd' {
+                return handshake(p);
+            }
+            if b == b'l' {
+                return message(p);
+            }
+            Reading::NoMessage
+        }
+    }
+}
+
+// The answer for a frame whose payload has a length.
+fn read_length(s: &[u8], length: PayloadLength) -> Reading
+    requires { ⌜ length .0 ≤ largestPayload ⌝ }
+    ensures { λ r. ⌜ r ≡ lengthReading (now (s .entry)) (length .0) ⌝ }
+{
+    let end = HEADER_LENGTH + length.number() as usize;
+    if s.len() < end {
+        return Reading::Incomplete;
+    }
+    read_payload(&s[HEADER_LENGTH..end])
+}
+
+// Reads the frame at the front of the bytes. Bytes after it are left for the next read.
+pub fn read(s: &[u8]) -> Reading
+    ensures { λ r. ⌜ r ≡ frameReading (now (s .entry)) ⌝ }
+    ensures { λ r. ⌜ answerOf r ≡ readFrame (now (s .entry)) ⌝ }
+{
+    match read_header(s) {
+        Header::Length(n) => match PayloadLength::new(n) {
+            Sized::Length(length) => read_length(s, length),
+            Sized::OverLimit => Reading::OverLimit,
+            Sized::OverProtocol => Reading::OverProtocol,
+        },
+        Header::NoDigit(at) => Reading::NoDigit(at),
+        Header::Short => Reading::Incomplete,
+    }
+}

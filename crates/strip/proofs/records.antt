@@ -1,0 +1,4 @@
+pub mod NumberLaws
+pub mod RecordLaws
+pub mod Forward
+pub mod GatherLaws
