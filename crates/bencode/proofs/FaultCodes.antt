@@ -7,13 +7,13 @@ use mathlib.Core.List.{List, [], _∷_}
 use lib.Dec.{eqb, leb, ltb}
 use lib.Signed.{mag}
 use lib.ListN.{length}
-use Rattle.bencode.specs.declared.numeral.Decimal.{Decimal}
+use Rattle.octets.specs.declared.numerals.Decimal.{Decimal}
 use Rattle.bencode.specs.declared.strings.Text.{Text}
 use Rattle.bencode.specs.declared.integers.Number.{Number}
 use Rattle.bencode.specs.declared.fault.Walk.{Walk}
 use Rattle.bencode.specs.declared.profile.Profile.{Profile}
-use Rattle.bencode.specs.Bytes.{byteAt, part}
-use Rattle.bencode.specs.Numeral.{numeralAt}
+use Rattle.octets.specs.Bytes.{byteAt, part}
+use Rattle.octets.specs.Numerals.{numeralAt}
 use Rattle.bencode.specs.Fault.{fault}
 use Rattle.bencode.specs.Strings.{stringAt, textEnd}
 use Rattle.bencode.specs.Integers.{signed, integerFrom, integerAt, numberEnd}
@@ -23,7 +23,7 @@ use Rattle.bencode.specs.Scalar.{scalarAt}
 use Rattle.bencode.specs.Walk.{onward, listStep, listFrom, entryStep, dictionaryStep, dictionaryFrom, valueAt, whole, payloadAt}
 use Rattle.bencode.specs.Depth.{largestDepth}
 use Rattle.bencode.specs.Demands.{FaultsCoded}
-use Rattle.bencode.proofs.sequences.Order.{clash}
+use Rattle.octets.proofs.sequences.Order.{clash}
 
 module _ (p : Profile) where
   -- a walk whose fault, if it is one, has a code of the profile

@@ -9,7 +9,7 @@ use lib.ListN.{length}
 use Rattle.bencode.specs.declared.entry.Entry.{Entry}
 use Rattle.bencode.specs.declared.field.Field.{Field}
 use Rattle.bencode.specs.declared.profile.Profile.{Profile}
-use Rattle.bencode.specs.Bytes.{Begins}
+use Rattle.octets.specs.Bytes.{Begins}
 use Rattle.bencode.specs.Skip.{skipRest}
 use Rattle.bencode.specs.Entry.{entryAt}
 use Rattle.bencode.specs.Field.{numberField, textField, fieldAt, entryField, fieldOf, ifInteger}

@@ -14,7 +14,7 @@ use Rattle.bencode.specs.Fault.{fault}
 use Rattle.bencode.specs.Walk.{valueAt, whole, payloadAt}
 use Rattle.bencode.specs.Depth.{largestDepth}
 use Rattle.bencode.specs.Value.{Value, encode, WellFormed}
-use Rattle.bencode.specs.Bytes.{Begins}
+use Rattle.octets.specs.Bytes.{Begins}
 use Rattle.bencode.specs.Demands.{AcceptsExactly}
 use Rattle.bencode.proofs.values.Sound.{value-sound}
 use Rattle.bencode.proofs.values.Complete.{value-reads}

@@ -17,7 +17,7 @@ use Rattle.bencode.specs.Key.{isFaultCode}
 use Rattle.bencode.specs.Walk.{valueAt, whole, payloadAt}
 use Rattle.bencode.specs.Value.{Value}
 use Rattle.bencode.specs.Judge.{Means, Walked, Judged, OneAnswer, JudgesMeaning}
-use Rattle.bencode.proofs.numerals.DigitLaws.{lt-or-le}
+use Rattle.octets.proofs.digits.DigitLaws.{lt-or-le}
 use Rattle.bencode.proofs.Grammar.{accepts-exactly}
 use Rattle.bencode.proofs.OneValue.{one-value}
 use Rattle.bencode.proofs.FaultCodes.{faults-coded}

@@ -6,10 +6,11 @@ use mathlib.Core.Bool.{Bool, true, false, cond, _&&_, _||_}
 use mathlib.Core.Logic.{⊎-elim}
 use mathlib.Core.List.{List, [], _∷_, List·Memᴰ, List·Memᴰ·head, List·Memᴰ·tail, List·Memᴰ·not-nil, List·Memᴰ·cases-cons}
 use native.Mathlib.Omega.{arith}
-use Rattle.bencode.specs.Bytes.{same, less}
+use Rattle.octets.specs.Bytes.{same, less}
 use Rattle.bencode.specs.Key.{isUsed, isAbove, keyFault}
 use Rattle.bencode.specs.Demands.{KeysOnce, KeysRise}
-use Rattle.bencode.proofs.sequences.Order.{clash, same-eq, above-unused, used-head, used-tail}
+use Rattle.octets.proofs.sequences.Order.{clash, same-eq}
+use Rattle.bencode.proofs.walking.KeyOrder.{above-unused, used-head, used-tail}
 
 used-member : (key : List ℕ) (keys : List (List ℕ)) → isUsed key keys ≡ true → List·Memᴰ key keys
 unfolding isUsed

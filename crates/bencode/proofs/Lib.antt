@@ -1,5 +1,4 @@
 pub mod sequences
-pub mod numerals
 pub mod scalars
 pub mod walking
 pub mod lookup

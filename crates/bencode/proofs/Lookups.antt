@@ -11,7 +11,7 @@ use Rattle.bencode.specs.declared.entry.Entry.{Entry}
 use Rattle.bencode.specs.declared.fault.Fault.{Fault}
 use Rattle.bencode.specs.declared.integers.Number.{Number}
 use Rattle.bencode.specs.declared.strings.Text.{Text}
-use Rattle.bencode.specs.Bytes.{byteAt, part, same, Begins}
+use Rattle.octets.specs.Bytes.{byteAt, part, same, Begins}
 use Rattle.bencode.specs.Fault.{fault}
 use Rattle.bencode.specs.Strings.{stringAt}
 use Rattle.bencode.specs.Integers.{InRange, integerAt}
@@ -24,7 +24,7 @@ use Rattle.bencode.proofs.walking.WalkLaws.{value-ends}
 use Rattle.bencode.proofs.lookup.SkipLaws.{value-skips, list-skips, dictionary-skips}
 use Rattle.bencode.proofs.lookup.EntryLaws.{find-none, find-here, find-more}
 use Rattle.bencode.proofs.lookup.ItemLaws.{item-last, item-value}
-use Rattle.bencode.proofs.sequences.BeginsLaws.{begins-left, begins-right, begins-head}
+use Rattle.octets.proofs.sequences.BeginsLaws.{begins-left, begins-right, begins-head}
 use Rattle.bencode.proofs.values.Encodings.{entries-text}
 use Rattle.bencode.proofs.walking.FirstBytes.{FirstByte, first-byte, no-end, no-string}
 use Rattle.bencode.proofs.scalars.IntegerLaws.{integer-other}

@@ -6,13 +6,13 @@ use mathlib.Core.List.{List, [], _∷_, _++_, append-nil}
 use native.Mathlib.Omega.{arith}
 use lib.IntN.{ℤ, pos, negsuc}
 use lib.ListN.{length}
-use Rattle.bencode.specs.declared.numeral.Decimal.{Decimal}
+use Rattle.octets.specs.declared.numerals.Decimal.{Decimal}
 use Rattle.bencode.specs.declared.strings.Text.{Text}
-use Rattle.bencode.specs.Bytes.{byteAt, part, Begins}
-use Rattle.bencode.specs.Numeral.{numeralAt, decimal}
+use Rattle.octets.specs.Bytes.{byteAt, part, Begins}
+use Rattle.octets.specs.Numerals.{numeralAt, decimal}
 use Rattle.bencode.specs.Value.{Value, integer, string, list, dictionary, Values, no-value, value, Entries, no-entry, entry, signedDecimal, encodeString, encode, encodeAll, encodeEntries}
 use Rattle.bencode.specs.Demands.{OneValue}
-use Rattle.bencode.proofs.sequences.BeginsLaws.{begins-left, begins-right, begins-head}
+use Rattle.octets.proofs.sequences.BeginsLaws.{begins-left, begins-right, begins-head}
 use Rattle.bencode.proofs.values.Encodings.{values-text, entries-text}
 use Rattle.bencode.proofs.walking.FirstBytes.{FirstByte, first-byte, string-first, no-end}
 use Rattle.bencode.proofs.values.ScalarReads.{first-digit, numeral-reads, no-digit, string-reads}

@@ -1,4 +1,1 @@
-pub mod BeginsLaws
-pub mod Equality
-pub mod Order
 pub mod LoopLaws

@@ -1,5 +1,6 @@
 pub mod DepthLaws
 pub mod Ends
 pub mod WalkLaws
+pub mod KeyOrder
 pub mod KeyLaws
 pub mod FirstBytes

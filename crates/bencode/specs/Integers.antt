@@ -7,12 +7,13 @@ use mathlib.Core.List.{List}
 use lib.IntN.{ℤ, pos, negℤ}
 use lib.Signed.{mag, leZ}
 use lib.Dec.{ltb, eqb}
-use Rattle.bencode.specs.declared.numeral.Decimal.{Decimal}
+use Rattle.octets.specs.declared.numerals.Decimal.{Decimal}
 use Rattle.bencode.specs.declared.integers.Number.{Number}
 use Rattle.bencode.specs.declared.fault.Walk.{Walk}
-use Rattle.bencode.specs.Bytes.{letterE, letterI, minus, digit0, byteAt}
+use Rattle.octets.specs.Bytes.{digit0, byteAt}
+use Rattle.bencode.specs.Letters.{letterE, letterI, minus}
 use Rattle.bencode.specs.Fault.{fault}
-use Rattle.bencode.specs.Numeral.{numeralAt}
+use Rattle.octets.specs.Numerals.{numeralAt}
 
 -- an integer with a sign
 abbrev pub signed : Bool → ℕ → ℤ

@@ -5,7 +5,8 @@ use mathlib.Core.Bool.{cond}
 use mathlib.Core.List.{List}
 use lib.Dec.{eqb, leb}
 use Rattle.bencode.specs.declared.item.Item.{Item}
-use Rattle.bencode.specs.Bytes.{letterE, byteAt}
+use Rattle.octets.specs.Bytes.{byteAt}
+use Rattle.bencode.specs.Letters.{letterE}
 use Rattle.bencode.specs.Skip.{skipValue}
 
 -- an item by the offset after it; one that does not end after it starts is none

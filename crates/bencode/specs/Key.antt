@@ -6,7 +6,7 @@ use mathlib.Core.Bool.{Bool, true, false, cond, _&&_, _||_}
 use mathlib.Core.List.{List, [], _∷_}
 use lib.Dec.{eqb, leb}
 use Rattle.bencode.specs.declared.profile.Profile.{Profile}
-use Rattle.bencode.specs.Bytes.{same, less}
+use Rattle.octets.specs.Bytes.{same, less}
 
 -- is a key among the earlier ones
 unfoldable pub isUsed : List ℕ → List (List ℕ) → Bool

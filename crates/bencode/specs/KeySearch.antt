@@ -10,7 +10,7 @@ use Rattle.bencode.specs.declared.key.Seen.{Seen}
 use Rattle.bencode.specs.declared.key.KeyCheck.{KeyCheck}
 use Rattle.bencode.specs.declared.strings.Text.{Text}
 use Rattle.bencode.specs.declared.profile.Profile.{Profile}
-use Rattle.bencode.specs.Bytes.{part, less}
+use Rattle.octets.specs.Bytes.{part, less}
 use Rattle.bencode.specs.Strings.{stringAt}
 use Rattle.bencode.specs.Entry.{entryAt}
 

@@ -1,8 +1,6 @@
-pub mod Ascii
-pub mod Bytes
+pub mod Letters
 pub mod Loop
 pub mod Fault
-pub mod Numeral
 pub mod Strings
 pub mod Integers
 pub mod Scalar
@@ -13,7 +11,6 @@ pub mod Skip
 pub mod Entry
 pub mod KeySearch
 pub mod Item
-pub mod Put
 pub mod Value
 pub mod Field
 pub mod Judge

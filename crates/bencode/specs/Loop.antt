@@ -7,7 +7,8 @@ use mathlib.Core.Bool.{cond}
 use mathlib.Core.List.{List}
 use lib.Dec.{eqb}
 use lib.ListN.{length}
-use Rattle.bencode.specs.Bytes.{letterE, byteAt}
+use Rattle.octets.specs.Bytes.{byteAt}
+use Rattle.bencode.specs.Letters.{letterE}
 
 -- what a step gives: the offset and the state to go on with, or the answer
 pub data Step (X A : Type 0) : Type 0 where

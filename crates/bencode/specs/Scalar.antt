@@ -5,7 +5,8 @@ use mathlib.Core.Bool.{cond}
 use mathlib.Core.List.{List}
 use lib.Dec.{eqb}
 use Rattle.bencode.specs.declared.fault.Walk.{Walk}
-use Rattle.bencode.specs.Bytes.{letterI, byteAt}
+use Rattle.octets.specs.Bytes.{byteAt}
+use Rattle.bencode.specs.Letters.{letterI}
 use Rattle.bencode.specs.Strings.{stringAt, textEnd}
 use Rattle.bencode.specs.Integers.{integerAt, numberEnd}
 

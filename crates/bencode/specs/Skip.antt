@@ -6,7 +6,8 @@ use mathlib.Core.Bool.{Bool, cond, _||_}
 use mathlib.Core.List.{List}
 use lib.Dec.{eqb}
 use Rattle.bencode.specs.declared.fault.Walk.{Walk}
-use Rattle.bencode.specs.Bytes.{letterD, letterE, letterL, byteAt}
+use Rattle.octets.specs.Bytes.{byteAt}
+use Rattle.bencode.specs.Letters.{letterD, letterE, letterL}
 use Rattle.bencode.specs.Loop.{Step, next, done, repeatFrom}
 use Rattle.bencode.specs.Scalar.{scalarAt}
 

@@ -6,12 +6,13 @@ use mathlib.Core.Bool.{cond}
 use mathlib.Core.List.{List}
 use lib.ListN.{length}
 use lib.Dec.{leb, eqb}
-use Rattle.bencode.specs.declared.numeral.Decimal.{Decimal}
+use Rattle.octets.specs.declared.numerals.Decimal.{Decimal}
 use Rattle.bencode.specs.declared.strings.Text.{Text}
 use Rattle.bencode.specs.declared.fault.Walk.{Walk}
-use Rattle.bencode.specs.Bytes.{colon, byteAt}
+use Rattle.octets.specs.Bytes.{byteAt}
+use Rattle.bencode.specs.Letters.{colon}
 use Rattle.bencode.specs.Fault.{fault}
-use Rattle.bencode.specs.Numeral.{numeralAt}
+use Rattle.octets.specs.Numerals.{numeralAt}
 
 -- the string whose length is the numeral n: 5 at the first byte that cannot stand there, or at the payload's end
 abbrev pub stringOf : List ℕ → ℕ → Decimal → Text

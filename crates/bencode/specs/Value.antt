@@ -9,8 +9,9 @@ use lib.IntN.{ℤ, pos, negsuc}
 use lib.ListN.{length}
 use Rattle.bencode.specs.declared.entry.Entry.{Entry}
 use Rattle.bencode.specs.declared.profile.Profile.{Profile}
-use Rattle.bencode.specs.Bytes.{letterD, letterE, letterI, letterL, colon, minus, same}
-use Rattle.bencode.specs.Numeral.{decimal}
+use Rattle.octets.specs.Bytes.{same}
+use Rattle.bencode.specs.Letters.{letterD, letterE, letterI, letterL, colon, minus}
+use Rattle.octets.specs.Numerals.{decimal}
 use Rattle.bencode.specs.Integers.{InRange}
 use Rattle.bencode.specs.Key.{keyFault}
 

@@ -9,7 +9,8 @@ use lib.ListN.{length}
 use Rattle.bencode.specs.declared.strings.Text.{Text}
 use Rattle.bencode.specs.declared.fault.Walk.{Walk}
 use Rattle.bencode.specs.declared.profile.Profile.{Profile}
-use Rattle.bencode.specs.Bytes.{letterD, letterE, letterL, byteAt, part}
+use Rattle.octets.specs.Bytes.{byteAt, part}
+use Rattle.bencode.specs.Letters.{letterD, letterE, letterL}
 use Rattle.bencode.specs.Loop.{Step, next, done, repeatFrom, itemStep}
 use Rattle.bencode.specs.Fault.{fault, codeOf, offsetOf}
 use Rattle.bencode.specs.Strings.{stringAt}

@@ -1,10 +1,10 @@
 // The value of a key in a dictionary that has been walked.
 ghost use mathlib.Core.Path.{_≡_};
 ghost use Rattle.bencode.specs.Entry.{entryAt};
-use super::bytes::same;
 use super::skip::skip_value;
 use super::strings::Text;
 use super::strings::string;
+use octets::same;
 
 // The offset of the value of a key, or that there is no such key.
 pub enum Entry {

@@ -3,13 +3,13 @@ ghost use mathlib.Core.Path.{_≡_};
 ghost use Rattle.bencode.specs.Strings.{stringAt};
 ghost use Rattle.bencode.specs.Integers.{integerAt};
 ghost use Rattle.bencode.specs.Field.{numberField, textField, fieldAt, fieldOf};
-use super::bytes::byte_at;
 use super::entry::Entry;
 use super::entry::find;
 use super::integers::Number;
 use super::integers::integer;
 use super::strings::Text;
 use super::strings::string;
+use octets::byte_at;
 
 // A value by its kind: an integer and the offset after it, the start and the end of a string's text, or the offset of a
 // list's first item or of a dictionary's first entry.

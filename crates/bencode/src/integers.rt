@@ -3,10 +3,10 @@ ghost use mathlib.Core.Path.{_≡_};
 ghost use Prim.Native.Nat.{_^_, _≤_};
 ghost use lib.IntN.{pos, negℤ, natAbs};
 ghost use Rattle.bencode.specs.Integers.{signed, inRange, integerFrom, integerAt, numberEnd};
-use super::bytes::byte_at;
 use super::fault::Fault;
 use super::fault::Walk;
-use super::numeral::numeral;
+use octets::byte_at;
+use octets::numeral;
 
 // What stands where an integer is expected: its value and the offset after it, or the fault.
 pub enum Number {

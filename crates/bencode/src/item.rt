@@ -1,8 +1,8 @@
 // The items of a list that has been walked.
 ghost use mathlib.Core.Path.{_≡_};
 ghost use Rattle.bencode.specs.Item.{itemAt};
-use super::bytes::byte_at;
 use super::skip::skip_value;
+use octets::byte_at;
 
 // What stands at an offset of a list, between two of its items: an item, by the offset after it, or the list's end.
 pub enum Item {

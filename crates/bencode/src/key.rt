@@ -2,15 +2,15 @@
 ghost use mathlib.Core.Path.{_≡_};
 ghost use Prim.Native.Nat.{_≤_};
 ghost use lib.ListN.{length};
-ghost use Rattle.bencode.specs.Bytes.{part};
+ghost use Rattle.octets.specs.Bytes.{part};
 ghost use Rattle.bencode.specs.KeySearch.{usedAt, aboveAt, keyAt};
-use super::bytes::less;
 use super::entry::Entry;
 use super::entry::find;
 use super::fault::Fault;
 use super::profile::Profile;
 use super::strings::Text;
 use super::strings::string;
+use octets::less;
 
 // What a walk keeps of a dictionary's earlier keys: the offset of the first entry, and of the one with the greatest key.
 pub struct Seen {

@@ -2,8 +2,6 @@
 // write integers and strings. Nothing here knows of frames.
 // Every function here takes any bytes and any offset, of any length: what a payload that was not walked says is still
 // defined, and what has no room is not stored.
-mod bytes;
-mod decimal;
 mod depth;
 mod entry;
 mod fault;
@@ -11,17 +9,13 @@ mod field;
 mod integers;
 mod item;
 mod key;
-mod numeral;
 mod profile;
 mod put;
 mod scalar;
 mod skip;
-mod store;
 mod strings;
 mod walk;
 
-pub use bytes::byte_at;
-pub use bytes::same;
 pub use fault::Fault;
 pub use fault::Walk;
 pub use field::Field;
@@ -33,8 +27,6 @@ pub use item::Item;
 pub use item::item_at;
 pub use profile::Profile;
 pub use put::integer_length;
-pub use put::put_bytes;
-pub use put::put_decimal;
 pub use put::put_integer;
 pub use put::put_string;
 pub use put::string_head;

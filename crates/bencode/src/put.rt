@@ -1,25 +1,24 @@
-// Integers, strings and bytes put into a lent buffer. Where they have no room, nothing is stored and the offset stays.
+// Integers and strings put into a lent buffer. Where they have no room, nothing is stored and the offset stays.
+ghost use mathlib.Core.List.{[], _∷_};
 ghost use mathlib.Core.Path.{_≡_};
 ghost use Prim.Native.Nat.{_+_, _≤_};
-ghost use lib.Dec.{ltb};
 ghost use lib.ListN.{length};
-ghost use Rattle.bencode.specs.Numeral.{decimal};
+ghost use Rattle.octets.specs.Numerals.{decimal};
 ghost use Rattle.bencode.specs.Value.{integer, sign, encodeString, encode};
-ghost use Rattle.bencode.specs.Put.{Wrote, Put};
-use super::decimal::decimal_length;
-use super::decimal::store_decimal;
+ghost use Rattle.octets.specs.Put.{Wrote, Put};
 use super::integers::magnitude;
-use super::store::store_byte;
-use super::store::store_bytes;
+use octets::decimal_length;
+use octets::lacks_room;
+use octets::put_bytes;
+use octets::put_decimal;
 
-// Is there no room for n bytes at an offset of a buffer of a size.
-fn lacks_room(size: usize, at: usize, n: usize) -> bool
-    ensures { λ r. ⌜ r ≡ ltb size (at + n) ⌝ }
+// Stores one byte at an offset, and answers the offset after it.
+fn store_byte(out: &mut [u8], at: usize, b: u8) -> usize
+    requires { ⌜ at + 1 ≤ length (now out) ⌝ }
+    ensures { λ r. ⌜ Wrote (now (out .entry)) at (b ∷ []) (now (out .exit)) r ⌝ }
 {
-    if size < at {
-        return true;
-    }
-    size - at < n
+    out[at] = b;
+    at + 1
 }
 
 // Stores the sign of an integer: `-` or nothing.
@@ -55,7 +54,7 @@ fn store_integer(out: &mut [u8], at: usize, v: i64) -> usize
 {
     let o = store_byte(out, at, b'i');
     let o = store_sign(out, o, v);
-    let o = store_decimal(out, o, magnitude(v));
+    let o = put_decimal(out, o, magnitude(v));
     store_byte(out, o, b'e')
 }
 
@@ -64,29 +63,9 @@ fn store_string(out: &mut [u8], at: usize, text: &[u8]) -> usize
     requires { ⌜ at + length (encodeString (now text)) ≤ length (now out) ⌝ }
     ensures { λ r. ⌜ Wrote (now (out .entry)) at (encodeString (now (text .entry))) (now (out .exit)) r ⌝ }
 {
-    let o = store_decimal(out, at, text.len() as u64);
+    let o = put_decimal(out, at, text.len() as u64);
     let o = store_byte(out, o, b':');
-    store_bytes(out, o, text)
-}
-
-// Puts bytes at an offset, and answers the offset after them.
-pub fn put_bytes(out: &mut [u8], at: usize, src: &[u8]) -> usize
-    ensures { λ r. ⌜ Put (now (out .entry)) at (now (src .entry)) (now (out .exit)) r ⌝ }
-{
-    if lacks_room(out.len(), at, src.len()) {
-        return at;
-    }
-    store_bytes(out, at, src)
-}
-
-// Puts a number in decimal at an offset, and answers the offset after it.
-pub fn put_decimal(out: &mut [u8], at: usize, n: u64) -> usize
-    ensures { λ r. ⌜ Put (now (out .entry)) at (decimal n) (now (out .exit)) r ⌝ }
-{
-    if lacks_room(out.len(), at, decimal_length(n)) {
-        return at;
-    }
-    store_decimal(out, at, n)
+    put_bytes(out, o, text)
 }
 
 // Puts a bencoded integer at an offset, and answers the offset after it.

@@ -1,10 +1,10 @@
 // Values that hold no other: strings and integers.
 ghost use mathlib.Core.Path.{_≡_};
 ghost use Rattle.bencode.specs.Scalar.{scalarAt};
-use super::bytes::byte_at;
 use super::fault::Walk;
 use super::integers::integer_end;
 use super::strings::string_end;
+use octets::byte_at;
 
 // The offset after the string or the integer at an offset.
 pub fn scalar_end(s: &[u8], at: usize) -> Walk

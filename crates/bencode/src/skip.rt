@@ -2,9 +2,9 @@
 ghost use mathlib.Core.Path.{_≡_};
 ghost use Prim.Native.Nat.{_≤_};
 ghost use Rattle.bencode.specs.Skip.{opens, skipFrom, skipValue, skipRest};
-use super::bytes::byte_at;
 use super::fault::Walk;
 use super::scalar::scalar_end;
+use octets::byte_at;
 
 // Does a byte open a list or a dictionary.
 fn opens(b: u8) -> bool

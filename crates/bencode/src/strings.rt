@@ -1,10 +1,10 @@
 // Strings: a decimal length, a colon and as many bytes.
 ghost use mathlib.Core.Path.{_≡_};
 ghost use Rattle.bencode.specs.Strings.{stringAt, textEnd};
-use super::bytes::byte_at;
 use super::fault::Fault;
 use super::fault::Walk;
-use super::numeral::numeral;
+use octets::byte_at;
+use octets::numeral;
 
 // What stands where a string is expected: the start and the end of its text, or the fault.
 pub enum Text {

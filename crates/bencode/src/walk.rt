@@ -4,7 +4,6 @@ ghost use Prim.Native.Nat.{_≤_};
 ghost use Rattle.bencode.specs.Depth.{largestDepth, levelsLeft};
 ghost use Rattle.bencode.specs.Fault.{codeOf, offsetOf};
 ghost use Rattle.bencode.specs.Walk.{valueAt, listAt, dictionaryAt, payloadAt, payloadCode, payloadOffset};
-use super::bytes::byte_at;
 use super::depth::Deeper;
 use super::depth::Depth;
 use super::fault::Fault;
@@ -16,6 +15,7 @@ use super::profile::Profile;
 use super::scalar::scalar_end;
 use super::strings::Text;
 use super::strings::string;
+use octets::byte_at;
 
 // The offset after the value at an offset, which stands at a depth.
 fn value(s: &[u8], at: usize, depth: Depth, profile: Profile) -> Walk

@@ -1,10 +1,10 @@
 -- The daemon makes of the bytes to try what the table says: antt computes them.
 -- Assumes nothing.
 use mathlib.Core.Path.{refl}
-use Rattle.bencode.specs.Numeral.{digits, numeralAt}
+use Rattle.octets.specs.Numerals.{digits, numeralAt}
 use Rattle.bencode.specs.Strings.{stringAt}
 use Rattle.bencode.specs.Integers.{integerAt, integerFrom}
-use Rattle.bencode.specs.Bytes.{same, less}
+use Rattle.octets.specs.Bytes.{same, less}
 use Rattle.bencode.specs.Key.{isUsed, isAbove, keyFault}
 use Rattle.bencode.specs.Scalar.{scalarAt}
 use Rattle.bencode.specs.Loop.{repeat}
@@ -13,7 +13,7 @@ use Rattle.bencode.specs.Item.{itemAt}
 use Rattle.bencode.specs.Walk.{listFrom, dictionaryFrom, valueAt, payloadAt}
 use Rattle.bencode.specs.Entry.{entryAt}
 use Rattle.bencode.specs.Field.{fieldAt, fieldOf}
-use Rattle.bencode.specs.Ascii.{ascii}
+use Rattle.octets.specs.Ascii.{ascii}
 use Rattle.ipc.specs.Hex.{hexDigit}
 use Rattle.ipc.specs.Header.{hexValue, headerIn, readHeader, sized}
 use Rattle.ipc.specs.Ids.{tagOf, torrentIdOf}

@@ -7,9 +7,9 @@ use mathlib.Core.List.{List, [], _∷_, flatten}
 use native.Mathlib.Omega.{arith}
 use lib.Dec.{eqb}
 use lib.ListN.{length}
-use Rattle.bencode.specs.Numeral.{decimal, decimalBefore}
+use Rattle.octets.specs.Numerals.{decimal, decimalBefore}
 use Rattle.bencode.specs.Value.{encode}
-use Rattle.bencode.specs.Ascii.{ascii}
+use Rattle.octets.specs.Ascii.{ascii}
 use Rattle.ipc.specs.Hex.{hexHeader, hexIn}
 use Rattle.ipc.specs.Keys.{keyText, classOf, listed}
 use Rattle.ipc.specs.Writer.{encodeGiven, encodeTag, payloadOf, frameOf}

@@ -10,10 +10,10 @@ use lib.ListN.{length, length-append}
 use lib.Dec.{leb}
 use borrow.Author.Tests.{leb-true}
 use Rattle.bencode.specs.declared.profile.Profile.{Profile}
-use Rattle.bencode.specs.Bytes.{byteAt, Begins}
+use Rattle.octets.specs.Bytes.{byteAt, Begins}
 use Rattle.bencode.specs.Integers.{InRange, integerAt}
 use Rattle.bencode.specs.Value.{integer, encode, encodeAll}
-use Rattle.bencode.proofs.sequences.BeginsLaws.{begins-left, begins-right, begins-head}
+use Rattle.octets.proofs.sequences.BeginsLaws.{begins-left, begins-right, begins-head}
 use Rattle.bencode.proofs.values.Encodings.{values-text}
 use Rattle.bencode.proofs.scalars.IntegerLaws.{integer-other}
 use Rattle.bencode.proofs.Lookups.{reads-integer}

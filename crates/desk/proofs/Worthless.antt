@@ -8,17 +8,17 @@ use mathlib.Core.List.{List, [], _∷_, flatten}
 use mathlib.Core.Option.{Option, some, none}
 use lib.IntN.{pos, natAbs}
 use lib.ListN.{replicate}
-use Rattle.bencode.specs.Numeral.{digits, numeralAt, decimal, decimalBefore}
+use Rattle.octets.specs.Numerals.{digits, numeralAt, decimal, decimalBefore}
 use Rattle.bencode.specs.Value.{encode}
 use Rattle.bencode.specs.Strings.{stringAt}
 use Rattle.bencode.specs.Integers.{integerAt, integerFrom}
-use Rattle.bencode.specs.Bytes.{same}
+use Rattle.octets.specs.Bytes.{same}
 use Rattle.bencode.specs.Scalar.{scalarAt}
 use Rattle.bencode.specs.Loop.{repeat}
 use Rattle.bencode.specs.Skip.{skipFrom}
 use Rattle.bencode.specs.Item.{itemAt}
 use Rattle.bencode.specs.Walk.{listFrom, valueAt, payloadAt}
-use Rattle.bencode.specs.Ascii.{ascii}
+use Rattle.octets.specs.Ascii.{ascii}
 use Rattle.ipc.specs.Hex.{hexDigit, hexHeader, hexIn}
 use Rattle.ipc.specs.Header.{hexValue, headerIn, readHeader, sized}
 use Rattle.ipc.specs.Ids.{tagOf, torrentIdOf}

@@ -8,7 +8,7 @@ use lib.Dec.{leb, eqb}
 use lib.IntN.{ℤ, natAbs}
 use lib.ListN.{length, drop}
 use Rattle.bencode.specs.declared.integers.Number.{Number}
-use Rattle.bencode.specs.Bytes.{part as bytesFrom}
+use Rattle.octets.specs.Bytes.{part as bytesFrom}
 use Rattle.bencode.specs.Integers.{integerAt}
 use Rattle.ipc.specs.Answer.{Answer, Content, nothing, integer, text, part, versions}
 use Rattle.ipc.specs.Reader.{readFrame}

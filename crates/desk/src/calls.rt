@@ -10,7 +10,7 @@ use super::plan::is_deferred;
 use super::plan::put_commands;
 use super::record::Desk;
 use super::refusal::call_fault;
-use bencode::put_bytes;
+use octets::put_bytes;
 
 // A refusal: the record as it was handed in.
 fn refuse(d: Desk, code: u8) -> Done

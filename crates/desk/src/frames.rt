@@ -4,7 +4,7 @@ ghost use mathlib.Core.Bool.{true};
 ghost use mathlib.Core.List.{[], _∷_};
 ghost use Prim.Native.Nat.{_+_, _≤_};
 ghost use lib.ListN.{length};
-ghost use Rattle.bencode.specs.Put.{Wrote, Put};
+ghost use Rattle.octets.specs.Put.{Wrote, Put};
 ghost use Rattle.bencode.specs.Value.{encodeAll};
 ghost use Rattle.ipc.specs.declared.writer.Given.{Given};
 ghost use Rattle.ipc.specs.Ids.{largestTag};
@@ -18,11 +18,11 @@ use super::limit::Limit;
 use super::lists::Pick;
 use super::lists::picks;
 use super::record::Desk;
-use bencode::put_bytes;
 use bencode::put_integer;
 use ipc::Given;
 use ipc::Written;
 use ipc::write;
+use octets::put_bytes;
 
 // The numbers of the keys that the desk writes.
 pub const DOWNLIMIT: u8 = 5;

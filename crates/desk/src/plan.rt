@@ -2,7 +2,7 @@
 ghost use mathlib.Core.Path.{_≡_};
 ghost use Prim.Native.Nat.{_≤_};
 ghost use lib.ListN.{length};
-ghost use Rattle.bencode.specs.Put.{Wrote};
+ghost use Rattle.octets.specs.Put.{Wrote};
 ghost use Rattle.desk.specs.Command.{framesOf, longestFrames};
 ghost use Rattle.desk.specs.Refusal.{callFault};
 ghost use Rattle.desk.specs.Plan.{deferred, deskAfter, commandsOf};

@@ -1,6 +1,6 @@
 // The numbers of a case's body, the lowest byte first.
-use bencode::byte_at;
 use cases::number_of;
+use octets::byte_at;
 
 // The 4 bytes at an offset; a byte past the end counts as 0.
 pub fn number_at(body: &[u8], at: u8) -> u32 {

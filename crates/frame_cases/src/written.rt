@@ -1,7 +1,6 @@
 // What a writer did as a line: `code count`, and a frame in lower case hex digits.
 use super::number::integer_at;
 use super::number::number_at;
-use bencode::byte_at;
 use cases::print;
 use cases::print_number;
 use ipc::Given;
@@ -9,6 +8,7 @@ use ipc::Written;
 use ipc::agreed_version;
 use ipc::write;
 use ipc::write_handshake;
+use octets::byte_at;
 
 // The bytes of a case of `w` before those that are handed in, and of cases of `s` and `a`.
 const MESSAGE_HEAD: usize = 21;

@@ -13,7 +13,7 @@ use lib.ListN.{length, take, drop, length-append, take-append-drop}
 use lib.Seq.{length-take-le, take-append-seam, drop-at}
 use Rattle.bencode.specs.declared.fault.Walk.{Walk}
 use Rattle.bencode.specs.declared.profile.Profile.{Profile}
-use Rattle.bencode.specs.Bytes.{byteAt, part, Begins}
+use Rattle.octets.specs.Bytes.{byteAt, part, Begins}
 use Rattle.bencode.specs.Depth.{largestDepth}
 use Rattle.bencode.specs.Walk.{payloadAt}
 use Rattle.bencode.specs.Value.{Value, integer, string, list, dictionary, encode, WellFormed}
@@ -31,7 +31,7 @@ use Rattle.ipc.proofs.headers.HeaderLaws.{in-some, in-none}
 use Rattle.ipc.proofs.frames.FrameLaws.{payload-fault as fault-payload, payload-dictionary, payload-list, payload-scalar, length-short, length-there, sized-fits, sized-over-limit, sized-over-protocol, frame-no-digit, frame-short, frame-sized}
 use Rattle.ipc.proofs.meaning.Messages.{message-means}
 use Rattle.bencode.specs.Key.{isFaultCode}
-use Rattle.bencode.proofs.sequences.Order.{clash}
+use Rattle.octets.proofs.sequences.Order.{clash}
 use Rattle.bencode.proofs.FaultCodes.{faults-coded}
 use Rattle.ipc.proofs.meaning.Handshakes.{handshake-means}
 

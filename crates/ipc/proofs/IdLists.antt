@@ -13,7 +13,8 @@ use Rattle.bencode.specs.declared.fault.Fault.{Fault}
 use Rattle.bencode.specs.declared.fault.Walk.{Walk}
 use Rattle.bencode.specs.declared.integers.Number.{Number}
 use Rattle.bencode.specs.declared.profile.Profile.{Profile}
-use Rattle.bencode.specs.Bytes.{letterL, byteAt, Begins}
+use Rattle.octets.specs.Bytes.{byteAt, Begins}
+use Rattle.bencode.specs.Letters.{letterL}
 use Rattle.bencode.specs.Depth.{largestDepth}
 use Rattle.bencode.specs.Fault.{fault}
 use Rattle.bencode.specs.Integers.{InRange, integerAt, within}
@@ -24,7 +25,7 @@ use Rattle.bencode.specs.Walk.{onward, listStep, listFrom, valueAt, payloadAt}
 use Rattle.bencode.proofs.walking.Ends.{SignedInteger, plus, minus, integer-inv}
 use Rattle.bencode.proofs.Grammar.{accepts-exactly}
 use Rattle.bencode.proofs.Lookups.{starts, items-begin}
-use Rattle.bencode.proofs.sequences.Order.{clash}
+use Rattle.octets.proofs.sequences.Order.{clash}
 use Rattle.bencode.proofs.walking.WalkLaws.{value-scalar, value-list}
 use Rattle.ipc.specs.declared.format.Items.{Items}
 use Rattle.ipc.specs.declared.format.OptionalEnd.{OptionalEnd}

@@ -11,15 +11,16 @@ use lib.Dec.{eqb, eqb→eq, leb}
 use lib.IntN.{ℤ, pos}
 use lib.ListN.{length, getD, replicate, List·getD-eq-default, drop}
 use Rattle.bencode.specs.declared.profile.Profile.{Profile}
-use Rattle.bencode.specs.Bytes.{same, letterE, part as bytesFrom}
+use Rattle.octets.specs.Bytes.{same, part as bytesFrom}
+use Rattle.bencode.specs.Letters.{letterE}
 use Rattle.bencode.specs.Depth.{largestDepth}
 use Rattle.bencode.specs.Integers.{InRange}
 use Rattle.bencode.specs.Key.{isUsed, keyFault}
 use Rattle.bencode.specs.Value.{Value, integer, string, list, Values, no-value, value, encodeString, encode, WellFormed}
-use Rattle.bencode.proofs.sequences.BeginsLaws.{part-begins}
-use Rattle.bencode.proofs.sequences.Order.{clash}
-use Rattle.bencode.proofs.numerals.Table.{at}
-use Rattle.bencode.specs.Ascii.{ascii}
+use Rattle.octets.proofs.sequences.BeginsLaws.{part-begins}
+use Rattle.octets.proofs.sequences.Order.{clash}
+use Rattle.octets.proofs.digits.Table.{at}
+use Rattle.octets.specs.Ascii.{ascii}
 use Rattle.ipc.specs.declared.format.Checked.{Checked}
 use Rattle.ipc.specs.declared.ids.OptionalTag.{OptionalTag}
 use Rattle.ipc.specs.declared.keys.Class.{Class}

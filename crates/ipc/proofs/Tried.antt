@@ -2,18 +2,18 @@
 -- Assumes nothing.
 use mathlib.Core.Path.{refl}
 use mathlib.Core.List.{flatten}
-use Rattle.bencode.specs.Numeral.{digits, numeralAt, decimal, decimalBefore}
+use Rattle.octets.specs.Numerals.{digits, numeralAt, decimal, decimalBefore}
 use Rattle.bencode.specs.Value.{encode}
 use Rattle.bencode.specs.Strings.{stringAt}
 use Rattle.bencode.specs.Integers.{integerAt, integerFrom}
-use Rattle.bencode.specs.Bytes.{same, less}
+use Rattle.octets.specs.Bytes.{same, less}
 use Rattle.bencode.specs.Key.{isUsed, isAbove, keyFault}
 use Rattle.bencode.specs.Scalar.{scalarAt}
 use Rattle.bencode.specs.Loop.{repeat}
 use Rattle.bencode.specs.Skip.{skipFrom}
 use Rattle.bencode.specs.Item.{itemAt}
 use Rattle.bencode.specs.Walk.{listFrom, dictionaryFrom, valueAt, payloadAt}
-use Rattle.bencode.specs.Ascii.{ascii}
+use Rattle.octets.specs.Ascii.{ascii}
 use Rattle.bencode.specs.Field.{fieldAt, fieldOf}
 use Rattle.ipc.specs.Header.{hexValue, headerIn, readHeader, sized}
 use Rattle.ipc.specs.Ids.{tagOf, torrentIdOf}

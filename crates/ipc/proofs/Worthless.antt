@@ -8,12 +8,12 @@ use native.Mathlib.Omega.{arith}
 use lib.IntN.{pos}
 use lib.ListN.{length, getD, take}
 use lib.Seq.{take-at}
-use Rattle.bencode.specs.Numeral.{decimal, decimalBefore}
+use Rattle.octets.specs.Numerals.{decimal, decimalBefore}
 use Rattle.bencode.specs.Value.{encode}
 use Rattle.ipc.specs.declared.writer.Given.{Given}
 use Rattle.ipc.specs.declared.writer.Written.{Written}
 use Rattle.ipc.specs.Answer.{Answer, message, integer, refused, accepted}
-use Rattle.bencode.specs.Ascii.{ascii}
+use Rattle.octets.specs.Ascii.{ascii}
 use Rattle.ipc.specs.Reader.{readFrame}
 use Rattle.ipc.specs.HandshakeWriter.{handshakePayload, handshakeWritten}
 use Rattle.ipc.specs.Header.{headerLength, largestPayload}

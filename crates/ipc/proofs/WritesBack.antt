@@ -10,12 +10,13 @@ use borrow.Author.Tests.{le-leb}
 use lib.IntN.{ℤ}
 use lib.ListN.{length, take, drop, getD, length-append}
 use lib.Seq.{take-at, drop-at}
-use Rattle.bencode.specs.Bytes.{letterE, letterL, Begins}
-use Rattle.bencode.specs.Numeral.{decimal}
+use Rattle.octets.specs.Bytes.{Begins}
+use Rattle.bencode.specs.Letters.{letterE, letterL}
+use Rattle.octets.specs.Numerals.{decimal}
 use Rattle.bencode.specs.Value.{Value, integer, string, list, dictionary, Values, encodeString, encode}
-use Rattle.bencode.proofs.sequences.BeginsLaws.{part-begins}
+use Rattle.octets.proofs.sequences.BeginsLaws.{part-begins}
 use Rattle.bencode.proofs.Lookups.{reads-string}
-use Rattle.bencode.proofs.sequences.Order.{clash}
+use Rattle.octets.proofs.sequences.Order.{clash}
 use Rattle.bencode.specs.Integers.{within}
 use Rattle.ipc.specs.declared.format.Checked.{Checked}
 use Rattle.ipc.specs.declared.keys.Class.{Class}

@@ -10,7 +10,7 @@ use lib.ListN.{length, take}
 use Rattle.bencode.specs.declared.fault.Fault.{Fault}
 use Rattle.bencode.specs.declared.fault.Walk.{Walk}
 use Rattle.bencode.specs.declared.profile.Profile.{Profile}
-use Rattle.bencode.specs.Bytes.{part as bytesFrom}
+use Rattle.octets.specs.Bytes.{part as bytesFrom}
 use Rattle.bencode.specs.Depth.{largestDepth}
 use Rattle.bencode.specs.Integers.{InRange}
 use Rattle.bencode.specs.Value.{Value, list, Values, encode, WellFormed}

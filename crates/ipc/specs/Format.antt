@@ -7,13 +7,14 @@ use lib.Dec.{eqb}
 use lib.IntN.{ℤ}
 use Rattle.bencode.specs.declared.integers.Number.{Number}
 use Rattle.bencode.specs.declared.strings.Text.{Text}
-use Rattle.bencode.specs.Bytes.{letterD, letterL, byteAt}
+use Rattle.octets.specs.Bytes.{byteAt}
+use Rattle.bencode.specs.Letters.{letterD, letterL}
 use Rattle.bencode.specs.Integers.{integerAt, within}
 use Rattle.bencode.specs.Loop.{Step, next, done, itemsFrom}
 use Rattle.bencode.specs.Strings.{stringAt}
 use Rattle.bencode.specs.Skip.{skipRest}
 use Rattle.bencode.specs.Field.{fieldOf, ifInteger}
-use Rattle.bencode.specs.Ascii.{ascii}
+use Rattle.octets.specs.Ascii.{ascii}
 use Rattle.ipc.specs.declared.keys.Class.{Class}
 use Rattle.ipc.specs.declared.format.Checked.{Checked}
 use Rattle.ipc.specs.declared.format.Items.{Items}

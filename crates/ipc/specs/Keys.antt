@@ -6,8 +6,8 @@ use Prim.Native.String.{String}
 use mathlib.Core.Bool.{Bool, true, false, cond}
 use mathlib.Core.List.{List, [], _∷_, _++_}
 use lib.ListN.{length, getD, replicate}
-use Rattle.bencode.specs.Bytes.{same}
-use Rattle.bencode.specs.Ascii.{ascii}
+use Rattle.octets.specs.Bytes.{same}
+use Rattle.octets.specs.Ascii.{ascii}
 use Rattle.ipc.specs.declared.keys.Class.{Class}
 use Rattle.ipc.specs.declared.keys.KeyRow.{KeyRow}
 

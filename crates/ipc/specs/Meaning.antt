@@ -6,7 +6,7 @@ use mathlib.Core.List.{List}
 use lib.IntN.{ℤ}
 use lib.ListN.{length}
 use Rattle.bencode.specs.Value.{Value, integer, string, list, dictionary, Values, no-value, value, encodeString, encode, Found, found, missing, lookup, under, foundInteger}
-use Rattle.bencode.specs.Ascii.{ascii}
+use Rattle.octets.specs.Ascii.{ascii}
 use Rattle.bencode.specs.Integers.{within}
 use Rattle.ipc.specs.declared.keys.Class.{Class}
 use Rattle.ipc.specs.declared.ids.OptionalTag.{OptionalTag}

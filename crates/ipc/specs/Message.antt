@@ -8,7 +8,8 @@ use lib.ListN.{length}
 use Rattle.bencode.specs.declared.integers.Number.{Number}
 use Rattle.bencode.specs.declared.item.Item.{Item}
 use Rattle.bencode.specs.declared.strings.Text.{Text}
-use Rattle.bencode.specs.Bytes.{letterE, byteAt, part}
+use Rattle.octets.specs.Bytes.{byteAt, part}
+use Rattle.bencode.specs.Letters.{letterE}
 use Rattle.bencode.specs.Integers.{integerAt}
 use Rattle.bencode.specs.Strings.{stringAt}
 use Rattle.bencode.specs.Item.{itemAt}

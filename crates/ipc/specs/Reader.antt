@@ -7,7 +7,8 @@ use lib.Dec.{eqb, leb}
 use lib.ListN.{length}
 use Rattle.bencode.specs.declared.fault.Walk.{Walk}
 use Rattle.bencode.specs.declared.profile.Profile.{Profile}
-use Rattle.bencode.specs.Bytes.{letterD, letterL, byteAt, part}
+use Rattle.octets.specs.Bytes.{byteAt, part}
+use Rattle.bencode.specs.Letters.{letterD, letterL}
 use Rattle.bencode.specs.Walk.{payloadAt}
 use Rattle.ipc.specs.declared.header.Header.{Header}
 use Rattle.ipc.specs.declared.header.Sized.{Sized}

@@ -7,7 +7,7 @@ use mathlib.Core.Path.{_≡_}
 use mathlib.Core.List.{List, [], _∷_, map}
 use Rattle.ipc.specs.declared.writer.Given.{Given}
 use Rattle.ipc.specs.Answer.{Answer, integer, part, refused, accepted, acceptedHandshake, offFormat}
-use Rattle.bencode.specs.Ascii.{ascii}
+use Rattle.octets.specs.Ascii.{ascii}
 use Rattle.ipc.specs.Reader.{readFrame}
 use Rattle.ipc.specs.HandshakeWriter.{handshakePayload}
 use Rattle.ipc.specs.Writer.{payloadOf, frameOf}

@@ -8,7 +8,8 @@ use mathlib.Core.List.{List, [], _∷_, _++_, flatten}
 use lib.Dec.{eqb, leb}
 use lib.IntN.{ℤ, pos}
 use lib.ListN.{length, drop}
-use Rattle.bencode.specs.Bytes.{letterE, letterL, byteAt}
+use Rattle.octets.specs.Bytes.{byteAt}
+use Rattle.bencode.specs.Letters.{letterE, letterL}
 use Rattle.bencode.specs.Value.{integer, encodeString, encode}
 use Rattle.bencode.specs.Integers.{within}
 use Rattle.ipc.specs.declared.format.Items.{Items}

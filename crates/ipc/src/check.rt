@@ -12,7 +12,7 @@ use super::ids::OptionalTag;
 use super::ids::Tag;
 use super::keys::Class;
 use super::writer::Given;
-use bencode::byte_at;
+use octets::byte_at;
 
 // Are bytes exactly one list of torrent IDs.
 fn is_id_list(s: &[u8]) -> bool

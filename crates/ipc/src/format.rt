@@ -16,11 +16,11 @@ use super::reading::Value;
 use bencode::Field;
 use bencode::Number;
 use bencode::Text;
-use bencode::byte_at;
 use bencode::field_of;
 use bencode::integer;
 use bencode::skip_rest;
 use bencode::string;
+use octets::byte_at;
 
 // The largest port.
 pub const LARGEST_PORT: u16 = 65535;

@@ -2,7 +2,7 @@
 ghost use mathlib.Core.Path.{_≡_};
 ghost use Prim.Native.Nat.{_≤_};
 ghost use lib.ListN.{length};
-ghost use Rattle.bencode.specs.Put.{Wrote};
+ghost use Rattle.octets.specs.Put.{Wrote};
 ghost use Rattle.ipc.specs.Writer.{frameOf, fitted, Leaves};
 ghost use Rattle.ipc.specs.HandshakeWriter.{handshakePayload, handshakeWritten};
 use super::header::HEADER_LENGTH;
@@ -11,8 +11,8 @@ use super::versions::OptionalVersions;
 use super::versions::Versions;
 use super::writer::Written;
 use bencode::integer_length;
-use bencode::put_bytes;
 use bencode::put_integer;
+use octets::put_bytes;
 
 // The bytes of a handshake beside its two integers.
 const HANDSHAKE_TEXT: usize = 23;

@@ -2,9 +2,9 @@
 ghost use mathlib.Core.Path.{_≡_};
 ghost use Prim.Native.Nat.{_≤_, _<_};
 ghost use lib.ListN.{length};
-ghost use Rattle.bencode.specs.Put.{Put};
+ghost use Rattle.octets.specs.Put.{Put};
 ghost use Rattle.bencode.specs.Value.{encodeString};
-ghost use Rattle.bencode.specs.Bytes.{same};
+ghost use Rattle.octets.specs.Bytes.{same};
 ghost use Rattle.ipc.specs.Keys.{keyCount, rowOf, rowAt, nameAt, listedAt, keyText, keyNumber, classOf, isWritten};
 use bencode::put_string;
 
@@ -180,7 +180,7 @@ fn is_key(k: usize, text: &[u8]) -> bool
     let row = row_at(k);
     let n = row.length;
     let name = row.text;
-    bencode::same(&name[..n], text)
+    octets::same(&name[..n], text)
 }
 
 // The number of a key, and 0 for one that is not listed.

@@ -16,10 +16,10 @@ use super::reading::Reading;
 use bencode::Item;
 use bencode::Number;
 use bencode::Text;
-use bencode::byte_at;
 use bencode::integer;
 use bencode::item_at;
 use bencode::string;
+use octets::byte_at;
 
 // What stands after a message's value: a tag or none, and then the list's end; or something else.
 pub enum Tail {

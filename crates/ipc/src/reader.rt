@@ -15,8 +15,8 @@ use super::message::message;
 use super::reading::Reading;
 use bencode::Profile;
 use bencode::Walk;
-use bencode::byte_at;
 use bencode::payload;
+use octets::byte_at;
 
 // The answer for a payload.
 fn read_payload(p: &[u8]) -> Reading

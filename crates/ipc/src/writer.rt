@@ -2,7 +2,7 @@
 ghost use mathlib.Core.Path.{_≡_};
 ghost use Prim.Native.Nat.{_≤_};
 ghost use lib.ListN.{length};
-ghost use Rattle.bencode.specs.Put.{Wrote, Put};
+ghost use Rattle.octets.specs.Put.{Wrote, Put};
 ghost use Rattle.ipc.specs.Writer.{encodeBytes, encodeGiven, encodeTag, payloadOf, frameOf, messageFault, lengthFault, writeAnswer, Leaves};
 use super::check::tag_fits;
 use super::check::value_fits;
@@ -17,9 +17,9 @@ use super::keys::put_key;
 use super::lengths::key_length;
 use super::lengths::tag_length;
 use super::lengths::value_length;
-use bencode::put_bytes;
 use bencode::put_integer;
 use bencode::put_string;
+use octets::put_bytes;
 
 // A value handed in: nothing, an integer, or bytes that stand beside it.
 pub enum Given {

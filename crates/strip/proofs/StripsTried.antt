@@ -2,9 +2,9 @@
 -- Assumes nothing.
 use mathlib.Core.Path.{refl}
 use mathlib.Core.List.{flatten}
-use Rattle.bencode.specs.Numeral.{decimal, decimalBefore}
+use Rattle.octets.specs.Numerals.{decimal, decimalBefore}
 use Rattle.bencode.specs.Value.{encode}
-use Rattle.bencode.specs.Ascii.{ascii}
+use Rattle.octets.specs.Ascii.{ascii}
 use Rattle.ipc.specs.Header.{hexValue}
 use Rattle.ipc.specs.Hex.{hexIn, hexHeader, hexDigit}
 use Rattle.ipc.specs.Keys.{listed, classOf, keyText}

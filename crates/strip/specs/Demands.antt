@@ -5,7 +5,7 @@ use mathlib.Core.Path.{_≡_}
 use mathlib.Core.Bool.{Bool, true}
 use mathlib.Core.List.{List}
 use lib.ListN.{length}
-use Rattle.bencode.specs.Bytes.{byteAt}
+use Rattle.octets.specs.Bytes.{byteAt}
 use Rattle.strip.specs.declared.record.Record.{Record}
 use Rattle.strip.specs.Record.{callKind, longestStrip, recordAt}
 use Rattle.strip.specs.Line.{faultText}

@@ -3,8 +3,8 @@
 use Prim.Native.Nat.{ℕ, _+_}
 use mathlib.Core.List.{List, [], _∷_, _++_, flatten}
 use lib.ListN.{length, take, drop, replicate}
-use Rattle.bencode.specs.Numeral.{decimal}
-use Rattle.bencode.specs.Ascii.{ascii}
+use Rattle.octets.specs.Numerals.{decimal}
+use Rattle.octets.specs.Ascii.{ascii}
 use Rattle.desk.specs.Command.{longestFrames}
 use Rattle.strip.specs.declared.output.Output.{Output}
 

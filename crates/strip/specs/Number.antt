@@ -5,7 +5,7 @@ use mathlib.Core.Bool.{cond}
 use mathlib.Core.List.{List}
 use lib.Dec.{ltb}
 use lib.IntN.{ℤ, pos, negsuc}
-use Rattle.bencode.specs.Bytes.{byteAt}
+use Rattle.octets.specs.Bytes.{byteAt}
 
 -- four bytes, the lowest first
 unfoldable pub numberAt : List ℕ → ℕ → ℕ

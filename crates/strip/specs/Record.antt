@@ -6,7 +6,7 @@ use mathlib.Core.Bool.{Bool, false, cond, not}
 use mathlib.Core.List.{List}
 use lib.Dec.{eqb, leb, ltb}
 use lib.ListN.{length}
-use Rattle.bencode.specs.Bytes.{byteAt}
+use Rattle.octets.specs.Bytes.{byteAt}
 use Rattle.desk.specs.declared.call.Call.{Call}
 use Rattle.strip.specs.declared.record.Record.{Record}
 use Rattle.strip.specs.declared.record.Decoded.{Decoded}

@@ -3,12 +3,12 @@ ghost use mathlib.Core.Path.{_≡_};
 ghost use Prim.Native.Nat.{_+_, _≤_};
 ghost use mathlib.Core.List.{[]};
 ghost use lib.ListN.{length};
-ghost use Rattle.bencode.specs.Put.{Wrote};
+ghost use Rattle.octets.specs.Put.{Wrote};
 ghost use Rattle.desk.specs.Command.{longestFrames};
 ghost use Rattle.strip.specs.Line.{wordText, callLine, framesText, callText, longestWord, longestLine, textOf};
 use super::output::Output;
-use bencode::put_bytes;
-use bencode::put_decimal;
+use octets::put_bytes;
+use octets::put_decimal;
 
 // No line.
 pub fn no_text() -> Output

@@ -4,7 +4,7 @@ ghost use Prim.Native.Nat.{_+_, _≤_, _<_};
 ghost use lib.ListN.{length};
 ghost use lib.Signed.{mag};
 ghost use Rattle.strip.specs.Number.{numberAt, signed, limitAt};
-use bencode::byte_at;
+use octets::byte_at;
 
 // The number at an offset.
 pub fn number_at(s: &[u8], at: usize) -> u32

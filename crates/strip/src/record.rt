@@ -5,8 +5,8 @@ ghost use lib.ListN.{length};
 ghost use Rattle.strip.specs.Record.{bodyLength, mayStand, callOf, callKind, watchOf, bodyAt, faultAt, placedAt, endAt, wholeAt, recordAt};
 use super::number::limit_at;
 use super::number::number_at;
-use bencode::byte_at;
 use desk::Call;
+use octets::byte_at;
 
 // What stands at an offset of a strip: a record, a fault or the strip's end.
 pub enum Record {

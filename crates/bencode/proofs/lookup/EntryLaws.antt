@@ -9,7 +9,7 @@ use lib.ListN.{length}
 use Rattle.bencode.specs.declared.entry.Entry.{Entry}
 use Rattle.bencode.specs.declared.fault.Fault.{Fault}
 use Rattle.bencode.specs.declared.strings.Text.{Text}
-use Rattle.bencode.specs.Bytes.{part, same}
+use Rattle.octets.specs.Bytes.{part, same}
 use Rattle.bencode.specs.Loop.{next, done, after, repeat, Past, Onward}
 use Rattle.bencode.specs.Strings.{stringAt}
 use Rattle.bencode.specs.Skip.{skipValue}

@@ -9,7 +9,7 @@ use borrow.Author.Tests.{eq-eqb, ne-eqb, le-leb, lt-leb, leb-false}
 use lib.Dec.{eqb, leb}
 use lib.ListN.{length}
 use Rattle.bencode.specs.declared.item.Item.{Item}
-use Rattle.bencode.specs.Bytes.{byteAt}
+use Rattle.octets.specs.Bytes.{byteAt}
 use Rattle.bencode.specs.Skip.{skipValue}
 use Rattle.bencode.specs.Item.{itemAt}
 use Rattle.bencode.specs.Loop.{Past}

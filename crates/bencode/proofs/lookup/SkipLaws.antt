@@ -12,7 +12,7 @@ use Rattle.bencode.specs.declared.fault.Fault.{Fault}
 use Rattle.bencode.specs.declared.strings.Text.{Text}
 use Rattle.bencode.specs.declared.fault.Walk.{Walk}
 use Rattle.bencode.specs.declared.profile.Profile.{Profile}
-use Rattle.bencode.specs.Bytes.{byteAt, part}
+use Rattle.octets.specs.Bytes.{byteAt, part}
 use Rattle.bencode.specs.Fault.{fault}
 use Rattle.bencode.specs.Strings.{stringAt}
 use Rattle.bencode.specs.Key.{keyFault}
@@ -20,9 +20,9 @@ use Rattle.bencode.specs.Loop.{Step, next, done, after, repeat, Past, On
 use Rattle.bencode.specs.Scalar.{scalarAt}
 use Rattle.bencode.specs.Walk.{onward, listStep, listFrom, entryStep, dictionaryStep, dictionaryFrom, valueAt}
 use Rattle.bencode.specs.Skip.{opens, landed, pastScalar, skipStep, skipFrom}
-use Rattle.bencode.proofs.numerals.NumeralLaws.{inside}
+use Rattle.octets.proofs.digits.NumeralLaws.{inside}
 use Rattle.bencode.proofs.sequences.LoopLaws.{repeat-step}
-use Rattle.bencode.proofs.sequences.Order.{clash}
+use Rattle.octets.proofs.sequences.Order.{clash}
 use Rattle.bencode.proofs.walking.Ends.{string-whole-inv, scalar-ends}
 
 -- ---- opening bytes

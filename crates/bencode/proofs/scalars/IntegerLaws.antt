@@ -12,13 +12,13 @@ use lib.IntN.{pos, negℤ}
 use lib.Signed.{mag}
 use mir.Syntax.{w64}
 use mir.Val.{SFits}
-use Rattle.bencode.specs.declared.numeral.Decimal.{Decimal}
+use Rattle.octets.specs.declared.numerals.Decimal.{Decimal}
 use Rattle.bencode.specs.declared.integers.Number.{Number}
 use Rattle.bencode.specs.Fault.{fault}
-use Rattle.bencode.specs.Bytes.{byteAt}
-use Rattle.bencode.specs.Numeral.{numeralAt, capped}
+use Rattle.octets.specs.Bytes.{byteAt}
+use Rattle.octets.specs.Numerals.{numeralAt, capped}
 use Rattle.bencode.specs.Integers.{signed, inRange, integerFrom, integerAt}
-use Rattle.bencode.proofs.numerals.NumeralLaws.{same-end, some-end, same-number}
+use Rattle.octets.proofs.digits.NumeralLaws.{same-end, some-end, same-number}
 
 -- -n fits 64 bits where n is at most 2 ^ 63, and no other n
 pub neg-fits : (n : ℕ) → n ≤ 2 ^ 63 → SFits w64 (negℤ (pos n))

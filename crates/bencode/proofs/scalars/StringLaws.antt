@@ -6,13 +6,13 @@ use mathlib.Core.List.{List}
 use native.Mathlib.Omega.{arith}
 use borrow.Author.Tests.{le-leb, lt-leb, eq-eqb, ne-eqb}
 use lib.ListN.{length}
-use Rattle.bencode.specs.declared.numeral.Decimal.{Decimal}
+use Rattle.octets.specs.declared.numerals.Decimal.{Decimal}
 use Rattle.bencode.specs.declared.strings.Text.{Text}
-use Rattle.bencode.specs.Bytes.{byteAt}
-use Rattle.bencode.specs.Numeral.{numeralAt, capped}
+use Rattle.octets.specs.Bytes.{byteAt}
+use Rattle.octets.specs.Numerals.{numeralAt, capped}
 use Rattle.bencode.specs.Fault.{fault}
 use Rattle.bencode.specs.Strings.{stringAt}
-use Rattle.bencode.proofs.numerals.NumeralLaws.{same-end, some-end, same-number}
+use Rattle.octets.proofs.digits.NumeralLaws.{same-end, some-end, same-number}
 
 module _ (s : List ℕ) (at : ℕ) (n : Decimal) (is : n ≡ capped (numeralAt s at)) where
   pub string-none : n .end ≡ at → Text.Fault (fault 5 at) ≡ stringAt s at

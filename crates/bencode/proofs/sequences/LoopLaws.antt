@@ -10,7 +10,7 @@ use lib.Dec.{eqb}
 use lib.ListN.{length}
 use Rattle.bencode.specs.declared.fault.Fault.{Fault}
 use Rattle.bencode.specs.declared.fault.Walk.{Walk}
-use Rattle.bencode.specs.Bytes.{byteAt}
+use Rattle.octets.specs.Bytes.{byteAt}
 use Rattle.bencode.specs.Loop.{Step, next, done, after, repeat, repeatFrom, itemStep, itemsFrom, Past, Onward}
 
 -- the fuel does not matter where it is more than the bytes left

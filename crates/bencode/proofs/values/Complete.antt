@@ -10,7 +10,7 @@ use lib.Signed.{mag}
 use lib.ListN.{length}
 use Rattle.bencode.specs.declared.fault.Walk.{Walk}
 use Rattle.bencode.specs.declared.profile.Profile.{Profile}
-use Rattle.bencode.specs.Bytes.{byteAt, part, Begins}
+use Rattle.octets.specs.Bytes.{byteAt, part, Begins}
 use Rattle.bencode.specs.Key.{keyFault}
 use Rattle.bencode.specs.Scalar.{scalarAt}
 use Rattle.bencode.specs.Walk.{listFrom, dictionaryFrom, valueAt}
@@ -18,7 +18,7 @@ use Rattle.bencode.specs.Value.{Value, integer, string, list, dictionary
 use Rattle.bencode.proofs.walking.Ends.{string-whole-inv, scalar-ends}
 use Rattle.bencode.proofs.walking.WalkLaws.{value-scalar, list-end, list-more, dictionary-end, dictionary-more}
 use Rattle.bencode.proofs.lookup.SkipLaws.{string-scalar}
-use Rattle.bencode.proofs.sequences.BeginsLaws.{begins-left, begins-right, begins-head}
+use Rattle.octets.proofs.sequences.BeginsLaws.{begins-left, begins-right, begins-head}
 use Rattle.bencode.proofs.values.Encodings.{values-text, entries-text}
 use Rattle.bencode.proofs.values.ScalarReads.{string-reads, integer-reads}
 

@@ -14,14 +14,14 @@ use lib.ListN.{length, getD}
 use lib.Seq.{getD-drop}
 use Rattle.bencode.specs.declared.strings.Text.{Text}
 use Rattle.bencode.specs.declared.integers.Number.{Number}
-use Rattle.bencode.specs.Bytes.{byteAt, part, Begins}
-use Rattle.bencode.specs.Numeral.{isDigit, digits, numeralAt, decimal}
+use Rattle.octets.specs.Bytes.{byteAt, part, Begins}
+use Rattle.octets.specs.Numerals.{isDigit, digits, numeralAt, decimal}
 use Rattle.bencode.specs.Strings.{stringAt}
 use Rattle.bencode.specs.Integers.{integerFrom, integerAt, signed}
 use Rattle.bencode.specs.Value.{signedDecimal, encodeString}
-use Rattle.bencode.proofs.numerals.NumeralLaws.{inside, digits-stop, numeral-zero, numeral-digits}
-use Rattle.bencode.proofs.numerals.DecimalLaws.{decimal-small, digits-decimal, First, first}
-use Rattle.bencode.proofs.sequences.BeginsLaws.{begins-rest, begins-left, begins-right, begins-head, begins-within, part-begins}
+use Rattle.octets.proofs.digits.NumeralLaws.{inside, digits-stop, numeral-zero, numeral-digits}
+use Rattle.octets.proofs.digits.DecimalLaws.{decimal-small, digits-decimal, First, first}
+use Rattle.octets.proofs.sequences.BeginsLaws.{begins-rest, begins-left, begins-right, begins-head, begins-within, part-begins}
 
 module _ (s : List ℕ) where
   -- a number's digits begin with a digit

@@ -13,13 +13,13 @@ use lib.Signed.{mag}
 use lib.ListN.{length, drop, length-drop}
 use lib.Seq.{drop-cons, length-take-le}
 use Rattle.bencode.specs.declared.fault.Fault.{Fault}
-use Rattle.bencode.specs.declared.numeral.Decimal.{Decimal}
+use Rattle.octets.specs.declared.numerals.Decimal.{Decimal}
 use Rattle.bencode.specs.declared.strings.Text.{Text}
 use Rattle.bencode.specs.declared.integers.Number.{Number}
 use Rattle.bencode.specs.declared.fault.Walk.{Walk}
 use Rattle.bencode.specs.declared.profile.Profile.{Profile}
-use Rattle.bencode.specs.Bytes.{byteAt, part, Begins}
-use Rattle.bencode.specs.Numeral.{isDigit, digits, numeralAt, decimal}
+use Rattle.octets.specs.Bytes.{byteAt, part, Begins}
+use Rattle.octets.specs.Numerals.{isDigit, digits, numeralAt, decimal}
 use Rattle.bencode.specs.Fault.{fault}
 use Rattle.bencode.specs.Strings.{stringAt, textEnd}
 use Rattle.bencode.specs.Integers.{integerAt, numberEnd}
@@ -28,10 +28,10 @@ use Rattle.bencode.specs.Key.{keyFault}
 use Rattle.bencode.specs.Scalar.{scalarAt}
 use Rattle.bencode.specs.Walk.{onward, listStep, listFrom, entryStep, dictionaryStep, dictionaryFrom, valueAt}
 use Rattle.bencode.specs.Value.{Value, integer, string, list, dictionary, Values, no-value, value, Entries, no-entry, entry, signedDecimal, encodeString, encode, encodeAll, encodeEntries, All, AllEntries, WellFormed}
-use Rattle.bencode.proofs.numerals.NumeralLaws.{inside, numeral-zero, numeral-digits}
+use Rattle.octets.proofs.digits.NumeralLaws.{inside, numeral-zero, numeral-digits}
 use Rattle.bencode.proofs.walking.Ends.{string-whole-inv, numeral-low, numeral-high, WholeInteger, SignedInteger, plus, minus, integer-inv}
-use Rattle.bencode.proofs.numerals.DecimalLaws.{decimal-small, spelt, digits-is}
-use Rattle.bencode.proofs.sequences.BeginsLaws.{begins-byte, begins-join, begins-part, begins-head}
+use Rattle.octets.proofs.digits.DecimalLaws.{decimal-small, spelt, digits-is}
+use Rattle.octets.proofs.sequences.BeginsLaws.{begins-byte, begins-join, begins-part, begins-head}
 
 -- the digits of a negative number
 pub neg-text : (n : ℕ) → (n ≡ 0 → ⊥) → signedDecimal (negℤ (pos n)) ≡ 45 ∷ decimal n

@@ -13,17 +13,17 @@ use lib.Signed.{mag}
 use lib.ListN.{length, drop}
 use mir.Syntax.{w64}
 use mir.Val.{SFits}
-use Rattle.bencode.specs.declared.numeral.Decimal.{Decimal}
+use Rattle.octets.specs.declared.numerals.Decimal.{Decimal}
 use Rattle.bencode.specs.declared.strings.Text.{Text}
 use Rattle.bencode.specs.declared.integers.Number.{Number}
 use Rattle.bencode.specs.declared.fault.Walk.{Walk}
-use Rattle.bencode.specs.Bytes.{byteAt}
-use Rattle.bencode.specs.Numeral.{isDigit, digits, digitsAt, numeralAt}
+use Rattle.octets.specs.Bytes.{byteAt}
+use Rattle.octets.specs.Numerals.{isDigit, digits, digitsAt, numeralAt}
 use Rattle.bencode.specs.Fault.{fault}
 use Rattle.bencode.specs.Strings.{stringAt, textEnd}
 use Rattle.bencode.specs.Integers.{signed, integerFrom, integerAt, numberEnd}
 use Rattle.bencode.specs.Scalar.{scalarAt}
-use Rattle.bencode.proofs.numerals.NumeralLaws.{inside, digits-below, digits-above, numeral-digits}
+use Rattle.octets.proofs.digits.NumeralLaws.{inside, digits-below, digits-above, numeral-digits}
 use Rattle.bencode.specs.Loop.{Past}
 
 -- a string's text, as the definition has it

@@ -7,12 +7,12 @@ use native.Mathlib.Omega.{arith}
 use lib.ListN.{length}
 use Rattle.bencode.specs.declared.fault.Fault.{Fault}
 use Rattle.bencode.specs.declared.strings.Text.{Text}
-use Rattle.bencode.specs.Bytes.{byteAt, Begins}
-use Rattle.bencode.specs.Numeral.{decimal}
+use Rattle.octets.specs.Bytes.{byteAt, Begins}
+use Rattle.octets.specs.Numerals.{decimal}
 use Rattle.bencode.specs.Strings.{stringAt}
 use Rattle.bencode.specs.Value.{Value, integer, string, list, dictionary, signedDecimal, encodeString, encode, encodeAll, encodeEntries}
 use Rattle.bencode.proofs.walking.Ends.{string-whole-inv}
-use Rattle.bencode.proofs.sequences.BeginsLaws.{begins-left, begins-head}
+use Rattle.octets.proofs.sequences.BeginsLaws.{begins-left, begins-head}
 use Rattle.bencode.proofs.values.ScalarReads.{first-digit}
 
 abbrev pub FirstByte : Value → ℕ → Type 0

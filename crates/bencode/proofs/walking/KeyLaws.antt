@@ -14,7 +14,7 @@ use Rattle.bencode.specs.declared.strings.Text.{Text}
 use Rattle.bencode.specs.declared.fault.Walk.{Walk}
 use Rattle.bencode.specs.declared.profile.Profile.{Profile}
 use Rattle.bencode.specs.Strings.{stringAt}
-use Rattle.bencode.specs.Bytes.{part, same, less}
+use Rattle.octets.specs.Bytes.{part, same, less}
 use Rattle.bencode.specs.Key.{isUsed, isAbove, orderFault, keyFault}
 use Rattle.bencode.specs.Walk.{valueAt}
 use Rattle.bencode.specs.Skip.{skipValue}
@@ -23,7 +23,8 @@ use Rattle.bencode.specs.KeySearch.{foundBefore, usedAt, aboveText, abov
 use Rattle.bencode.specs.Loop.{Past}
 use Rattle.bencode.proofs.walking.Ends.{string-whole-inv}
 use Rattle.bencode.proofs.walking.WalkLaws.{value-ends}
-use Rattle.bencode.proofs.sequences.Order.{clash, same-refl, less-irrefl, Under, above-all, above-unused, not-above, under-above, used-head, used-tail}
+use Rattle.octets.proofs.sequences.Order.{clash, same-refl, less-irrefl}
+use Rattle.bencode.proofs.walking.KeyOrder.{Under, above-all, above-unused, not-above, under-above, used-head, used-tail}
 use Rattle.bencode.proofs.lookup.SkipLaws.{value-skips}
 use Rattle.bencode.proofs.lookup.EntryLaws.{find-here, find-more}
 

@@ -6,7 +6,7 @@ use mathlib.Core.List.{List, [], _∷_, _++_, flatten, append-nil}
 use native.Mathlib.Omega.{arith}
 use lib.IntN.{ℤ, pos, negsuc, natAbs}
 use lib.ListN.{length, length-append}
-use Rattle.bencode.specs.Numeral.{decimal}
+use Rattle.octets.specs.Numerals.{decimal}
 use Rattle.bencode.specs.Value.{integer, sign, encodeString, encode}
 
 abbrev pub integerParts : ℤ → List (List ℕ)

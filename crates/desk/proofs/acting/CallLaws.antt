@@ -9,8 +9,8 @@ use native.Mathlib.Omega.{arith}
 use borrow.Author.Tests.{eq-eqb, ne-eqb, eqb-true, eqb-false, le-leb, lt-leb}
 use lib.Dec.{eqb, leb}
 use lib.ListN.{length}
-use Rattle.bencode.specs.Put.{Put}
-use Rattle.bencode.proofs.writing.PutLaws.{put-wrote, wrote-front}
+use Rattle.octets.specs.Put.{Put}
+use Rattle.octets.proofs.writing.PutLaws.{put-wrote, wrote-front}
 use Rattle.desk.specs.declared.call.Call.{Call}
 use Rattle.desk.specs.declared.record.Desk.{Desk}
 use Rattle.desk.specs.declared.done.Done.{Done}

@@ -7,8 +7,8 @@ use mathlib.Core.Logic.{inl, inr}
 use mathlib.Core.List.{List, [], _∷_, append-nil}
 use native.Mathlib.Omega.{arith}
 use lib.ListN.{length}
-use Rattle.bencode.specs.Put.{Wrote, Put}
-use Rattle.bencode.proofs.writing.PutLaws.{put-wrote}
+use Rattle.octets.specs.Put.{Wrote, Put}
+use Rattle.octets.proofs.writing.PutLaws.{put-wrote}
 use Rattle.desk.specs.declared.call.Call.{Call}
 use Rattle.desk.specs.declared.record.Desk.{Desk}
 use Rattle.desk.specs.Watch.{isId}

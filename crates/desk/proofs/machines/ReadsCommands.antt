@@ -12,7 +12,7 @@ use lib.IntN.{ℤ, pos, negsuc}
 use lib.ListN.{length, take, drop, length-append, length-take, length-drop}
 use lib.Seq.{take-append-seam, drop-append-seam, take-append-le, drop-append-le}
 use borrow.Author.Tests.{leb-true, ne-eqb}
-use Rattle.bencode.specs.Bytes.{part as bytesFrom}
+use Rattle.octets.specs.Bytes.{part as bytesFrom}
 use Rattle.bencode.specs.Integers.{InRange}
 use Rattle.bencode.specs.Value.{encode}
 use Rattle.ipc.specs.declared.keys.Class.{Class}

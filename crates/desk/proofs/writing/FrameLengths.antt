@@ -10,12 +10,12 @@ use borrow.Author.Tests.{leb-true}
 use lib.Dec.{leb, eqb}
 use lib.IntN.{ℤ, pos, negsuc}
 use lib.ListN.{length, length-append}
-use Rattle.bencode.specs.Numeral.{decimal, decimalBefore}
+use Rattle.octets.specs.Numerals.{decimal, decimalBefore}
 use Rattle.bencode.specs.Value.{integer, encodeString, encode, encodeAll}
-use Rattle.bencode.proofs.numerals.DigitLaws.{length-pos, length-below}
+use Rattle.octets.proofs.digits.DigitLaws.{length-pos, length-below}
 use Rattle.bencode.proofs.writing.PutParts.{integer-size}
 use Rattle.ipc.specs.declared.writer.Given.{Given}
-use Rattle.bencode.specs.Ascii.{ascii}
+use Rattle.octets.specs.Ascii.{ascii}
 use Rattle.ipc.specs.Ids.{largestId, largestTag}
 use Rattle.ipc.specs.Keys.{keyText, classOf, listed}
 use Rattle.ipc.specs.Writer.{encodeGiven, encodeTag, payloadOf}

@@ -8,7 +8,7 @@ use native.Mathlib.Omega.{arith}
 use lib.Dec.{eqb}
 use lib.IntN.{ℤ}
 use lib.ListN.{length, length-append}
-use Rattle.bencode.specs.Numeral.{decimal, decimalBefore}
+use Rattle.octets.specs.Numerals.{decimal, decimalBefore}
 use Rattle.bencode.specs.Value.{integer, encode}
 use Rattle.desk.specs.declared.record.Desk.{Desk}
 use Rattle.desk.specs.declared.lists.Pick.{Pick}

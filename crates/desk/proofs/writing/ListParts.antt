@@ -5,9 +5,9 @@ use mathlib.Core.Path.{_≡_, refl, sym, ap}
 use mathlib.Core.Bool.{true, false}
 use mathlib.Core.List.{List, [], _∷_, _++_, flatten, append-nil}
 use lib.ListN.{drop}
-use Rattle.bencode.specs.Put.{Put}
+use Rattle.octets.specs.Put.{Put}
 use Rattle.bencode.specs.Value.{integer, encode, encodeAll}
-use Rattle.bencode.proofs.writing.PutLaws.{Writing, next-put}
+use Rattle.octets.proofs.writing.PutLaws.{Writing, next-put}
 use lib.IntN.{pos}
 use Rattle.desk.specs.declared.lists.Pick.{Pick}
 use Rattle.desk.specs.declared.watch.Watch.{Watch}

@@ -12,9 +12,9 @@ use borrow.Rule.Slice.PartMut.{midOf, putMid, mid-len, put-same}
 use lib.Dec.{leb}
 use lib.ListN.{length, length-append, length-drop, take, drop, drop-of-length-le}
 use lib.Seq.{sets, sets-eq, take-all, drop-drop, take-append-seam}
-use Rattle.bencode.specs.Put.{Wrote, Put}
-use Rattle.bencode.proofs.numerals.DigitLaws.{lt-or-le}
-use Rattle.bencode.proofs.writing.PutLaws.{wrote-front}
+use Rattle.octets.specs.Put.{Wrote, Put}
+use Rattle.octets.proofs.digits.DigitLaws.{lt-or-le}
+use Rattle.octets.proofs.writing.PutLaws.{wrote-front}
 use Rattle.ipc.specs.declared.writer.Given.{Given}
 use Rattle.ipc.specs.declared.writer.Written.{Written}
 use Rattle.ipc.specs.Writer.{payloadOf, frameOf, writeAnswer, bufferAfter, Leaves}

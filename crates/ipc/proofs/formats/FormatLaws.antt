@@ -15,8 +15,8 @@ use Rattle.bencode.specs.declared.fault.Fault.{Fault}
 use Rattle.bencode.specs.declared.field.Field.{Field}
 use Rattle.bencode.specs.declared.integers.Number.{Number}
 use Rattle.bencode.specs.declared.strings.Text.{Text}
-use Rattle.bencode.specs.Ascii.{ascii}
-use Rattle.bencode.specs.Bytes.{byteAt}
+use Rattle.octets.specs.Ascii.{ascii}
+use Rattle.octets.specs.Bytes.{byteAt}
 use Rattle.bencode.specs.Field.{fieldOf, ifInteger}
 use Rattle.bencode.specs.Integers.{integerAt, within}
 use Rattle.bencode.specs.Loop.{next, Past, Onward}

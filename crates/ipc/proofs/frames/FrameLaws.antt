@@ -14,9 +14,9 @@ use lib.ListN.{length}
 use Rattle.bencode.specs.declared.fault.Fault.{Fault}
 use Rattle.bencode.specs.declared.fault.Walk.{Walk}
 use Rattle.bencode.specs.declared.profile.Profile.{Profile}
-use Rattle.bencode.specs.Bytes.{byteAt, part}
+use Rattle.octets.specs.Bytes.{byteAt, part}
 use Rattle.bencode.specs.Walk.{payloadAt}
-use Rattle.bencode.proofs.numerals.DigitLaws.{lt-or-le}
+use Rattle.octets.proofs.digits.DigitLaws.{lt-or-le}
 use Rattle.ipc.specs.declared.header.Header.{Header}
 use Rattle.ipc.specs.declared.header.PayloadLength.{PayloadLength}
 use Rattle.ipc.specs.declared.header.Sized.{Sized}

@@ -12,7 +12,7 @@ use Rattle.bencode.specs.declared.field.Field.{Field}
 use Rattle.bencode.specs.Field.{fieldOf, ifInteger}
 use Rattle.bencode.proofs.field.Field.{the-type}
 use Rattle.bencode.proofs.lookup.FieldLaws.{NoInteger, integer-other}
-use Rattle.bencode.specs.Ascii.{ascii}
+use Rattle.octets.specs.Ascii.{ascii}
 use Rattle.bencode.proofs.scalars.Ranges.{machine, same}
 use Rattle.ipc.specs.declared.versions.OptionalVersions.{OptionalVersions}
 use Rattle.ipc.specs.Handshake.{rangeAt, versionsIn, dictionaryVersions}

@@ -8,7 +8,7 @@ use lib.IntN.{ℤ}
 use Rattle.bencode.specs.declared.fault.Fault.{Fault}
 use Rattle.bencode.specs.declared.strings.Text.{Text}
 use Rattle.bencode.specs.declared.integers.Number.{Number}
-use Rattle.bencode.specs.Bytes.{byteAt, part}
+use Rattle.octets.specs.Bytes.{byteAt, part}
 use Rattle.bencode.specs.Strings.{stringAt}
 use Rattle.bencode.specs.Integers.{integerAt}
 use Rattle.bencode.specs.declared.item.Item.{Item}

@@ -7,7 +7,7 @@ use mathlib.Core.List.{List, [], _∷_}
 use denote.Enum.Declared.{tagOf}
 use lib.IntN.{ℤ}
 use types.Run.{OneOf, miss}
-use Rattle.bencode.specs.Put.{Put}
+use Rattle.octets.specs.Put.{Put}
 use Rattle.ipc.specs.declared.keys.Class.{Class}
 use Rattle.ipc.specs.Writer.{nothingFits, integerFits, bytesFit, encodeBytes}
 use Rattle.ipc.proofs.keys.Class.{the-type}

@@ -8,10 +8,10 @@ use native.Mathlib.Nat.{le-of-suc-le-suc, not-suc-le-zero}
 use native.Mathlib.Omega.{arith}
 use lib.ListN.{length, getD, drop, take, replicate, List·getD-map, List·getD-eq-default, length-append, drop-of-length-le}
 use lib.Seq.{drop-cons, take-at}
-use Rattle.bencode.specs.Bytes.{same}
-use Rattle.bencode.specs.Put.{Put}
+use Rattle.octets.specs.Bytes.{same}
+use Rattle.octets.specs.Put.{Put}
 use Rattle.bencode.specs.Value.{encodeString}
-use Rattle.bencode.specs.Ascii.{ascii}
+use Rattle.octets.specs.Ascii.{ascii}
 use Rattle.ipc.specs.declared.keys.KeyRow.{KeyRow}
 use Rattle.ipc.specs.Keys.{Listed, listed, unlisted, rowOf, rowAt, nameAt, numberFrom, keyNumber, listedAt, classOf, isWritten, keyText}
 

@@ -7,8 +7,8 @@ use lib.ListN.{length}
 use Rattle.bencode.specs.declared.entry.Entry.{Entry}
 use Rattle.bencode.specs.declared.field.Field.{Field}
 use Rattle.bencode.specs.declared.profile.Profile.{Profile}
-use Rattle.bencode.specs.Ascii.{ascii}
-use Rattle.bencode.specs.Bytes.{Begins}
+use Rattle.octets.specs.Ascii.{ascii}
+use Rattle.octets.specs.Bytes.{Begins}
 use Rattle.bencode.specs.Field.{fieldOf, ifInteger}
 use Rattle.bencode.specs.Value.{integer, string, list, dictionary, Entries, encodeEntries, AllEntries, WellFormed, Found, found, missing, lookup, lookupAt, foundInteger}
 use Rattle.bencode.specs.Demands.{ShowsFound}

@@ -9,11 +9,12 @@ use borrow.Author.Tests.{leb-true, ne-eqb}
 use lib.Dec.{leb}
 use lib.IntN.{ℤ, pos, negsuc, natAbs}
 use lib.ListN.{length, getD}
-use Rattle.bencode.specs.Bytes.{same, letterL, letterE}
+use Rattle.octets.specs.Bytes.{same}
+use Rattle.bencode.specs.Letters.{letterL, letterE}
 use Rattle.bencode.specs.Value.{Value, integer, string, list, dictionary, Values, no-value, value, encodeString, encode, encodeAll, lookup}
 use Rattle.bencode.proofs.values.Encodings.{values-text}
-use Rattle.bencode.proofs.sequences.Order.{clash, same-eq}
-use Rattle.bencode.specs.Ascii.{ascii}
+use Rattle.octets.proofs.sequences.Order.{clash, same-eq}
+use Rattle.octets.specs.Ascii.{ascii}
 use Rattle.bencode.specs.Integers.{within}
 use Rattle.ipc.specs.declared.ids.OptionalTag.{OptionalTag}
 use Rattle.ipc.specs.declared.ids.Tag.{Tag}

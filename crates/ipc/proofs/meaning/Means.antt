@@ -8,13 +8,13 @@ use native.Mathlib.Omega.{arith}
 use lib.IntN.{ℤ, natAbs}
 use lib.ListN.{length}
 use Rattle.bencode.specs.declared.profile.Profile.{Profile}
-use Rattle.bencode.specs.Ascii.{ascii}
-use Rattle.bencode.specs.Bytes.{byteAt, Begins}
+use Rattle.octets.specs.Ascii.{ascii}
+use Rattle.octets.specs.Bytes.{byteAt, Begins}
 use Rattle.bencode.specs.Integers.{within}
 use Rattle.bencode.specs.Skip.{skipRest}
 use Rattle.bencode.specs.Strings.{stringAt}
 use Rattle.bencode.specs.Value.{Value, integer, string, list, dictionary, Values, no-value, value, encode, encodeAll, All, WellFormed, Found, found, missing, lookup, foundInteger}
-use Rattle.bencode.proofs.sequences.BeginsLaws.{begins-left, begins-right, begins-head}
+use Rattle.octets.proofs.sequences.BeginsLaws.{begins-left, begins-right, begins-head}
 use Rattle.bencode.proofs.values.Encodings.{values-text}
 use Rattle.bencode.proofs.Fields.{finds-integer}
 use Rattle.bencode.proofs.Lookups.{starts, value-first, entries-begin, reads-integer, reads-string}

@@ -12,15 +12,15 @@ use Rattle.bencode.specs.declared.fault.Fault.{Fault}
 use Rattle.bencode.specs.declared.strings.Text.{Text}
 use Rattle.bencode.specs.declared.integers.Number.{Number}
 use Rattle.bencode.specs.declared.profile.Profile.{Profile}
-use Rattle.bencode.specs.Bytes.{byteAt, part, Begins}
+use Rattle.octets.specs.Bytes.{byteAt, part, Begins}
 use Rattle.bencode.specs.Strings.{stringAt}
 use Rattle.bencode.specs.Integers.{integerAt, within}
 use Rattle.bencode.specs.Value.{Value, integer, string, list, dictionary, Values, no-value, value, encodeString, encode, encodeAll, All, WellFormed}
 use Rattle.bencode.proofs.values.Encodings.{values-text}
 use Rattle.bencode.proofs.walking.FirstBytes.{no-string}
 use Rattle.bencode.proofs.Lookups.{starts, reads-integer, reads-string, finds-item, ends-items, items-begin, value-first}
-use Rattle.bencode.specs.Numeral.{decimal}
-use Rattle.bencode.proofs.sequences.BeginsLaws.{begins-left, begins-right, begins-head}
+use Rattle.octets.specs.Numerals.{decimal}
+use Rattle.octets.proofs.sequences.BeginsLaws.{begins-left, begins-right, begins-head}
 use Rattle.bencode.proofs.values.ScalarReads.{string-reads}
 use Rattle.ipc.specs.declared.keys.Class.{Class}
 use Rattle.ipc.specs.declared.ids.OptionalTag.{OptionalTag}

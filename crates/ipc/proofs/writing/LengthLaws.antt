@@ -10,9 +10,9 @@ use lib.IntN.{ℤ}
 use lib.ListN.{length}
 use mir.Syntax.{w64}
 use mir.Val.{SFits, toZ}
-use Rattle.bencode.specs.Numeral.{decimalBefore, decimal}
+use Rattle.octets.specs.Numerals.{decimalBefore, decimal}
 use Rattle.bencode.specs.Value.{integer, encodeString, encode}
-use Rattle.bencode.proofs.numerals.DigitLaws.{lt-or-le}
+use Rattle.octets.proofs.digits.DigitLaws.{lt-or-le}
 use Rattle.bencode.proofs.writing.PutParts.{string-size}
 use Rattle.bencode.proofs.scalars.Ranges.{machine, natural-machine, same}
 use Rattle.ipc.specs.declared.keys.Class.{Class}

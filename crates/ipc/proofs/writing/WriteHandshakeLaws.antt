@@ -6,9 +6,9 @@ use mathlib.Core.List.{List, [], _∷_, flatten, append-assoc, append-nil}
 use native.Mathlib.Omega.{arith}
 use lib.IntN.{pos}
 use lib.ListN.{length, length-append}
-use Rattle.bencode.specs.Numeral.{decimalBefore, decimal}
+use Rattle.octets.specs.Numerals.{decimalBefore, decimal}
 use Rattle.bencode.specs.Value.{integer, encode}
-use Rattle.bencode.specs.Ascii.{ascii}
+use Rattle.octets.specs.Ascii.{ascii}
 use Rattle.ipc.specs.declared.versions.Versions.{Versions}
 use Rattle.ipc.specs.declared.versions.OptionalVersions.{OptionalVersions}
 use Rattle.ipc.specs.declared.writer.Written.{Written}

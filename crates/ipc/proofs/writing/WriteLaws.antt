@@ -7,9 +7,9 @@ use mathlib.Core.List.{List, [], _∷_, _++_, flatten}
 use native.Mathlib.Omega.{arith}
 use borrow.Author.Tests.{le-leb, lt-leb}
 use lib.ListN.{length, length-append}
-use Rattle.bencode.specs.Put.{Wrote}
-use Rattle.bencode.proofs.numerals.DigitLaws.{lt-or-le}
-use Rattle.bencode.proofs.writing.PutLaws.{Writing, start, finish, wrote-front}
+use Rattle.octets.specs.Put.{Wrote}
+use Rattle.octets.proofs.digits.DigitLaws.{lt-or-le}
+use Rattle.octets.proofs.writing.PutLaws.{Writing, start, finish, wrote-front}
 use Rattle.bencode.specs.Value.{encodeString}
 use Rattle.ipc.specs.declared.writer.Given.{Given}
 use Rattle.ipc.specs.declared.writer.Written.{Written}

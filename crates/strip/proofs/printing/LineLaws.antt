@@ -5,10 +5,10 @@ use mathlib.Core.Path.{_≡_, refl}
 use mathlib.Core.List.{List, [], _∷_, _++_, flatten}
 use native.Mathlib.Omega.{arith}
 use lib.ListN.{length, length-append}
-use Rattle.bencode.specs.Numeral.{decimal}
-use Rattle.bencode.specs.Put.{Wrote, Put}
-use Rattle.bencode.proofs.numerals.DigitLaws.{length-below}
-use Rattle.bencode.proofs.writing.PutLaws.{Writing, start, finish, next-put, wrote-none, wrote-length, wrote-front, wrote-then}
+use Rattle.octets.specs.Numerals.{decimal}
+use Rattle.octets.specs.Put.{Wrote, Put}
+use Rattle.octets.proofs.digits.DigitLaws.{length-below}
+use Rattle.octets.proofs.writing.PutLaws.{Writing, start, finish, next-put, wrote-none, wrote-length, wrote-front, wrote-then}
 use Rattle.strip.specs.declared.output.Output.{Output}
 use Rattle.strip.specs.Line.{space, newline, blank, textOf, callLine, framesText, callText}
 

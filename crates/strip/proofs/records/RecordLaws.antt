@@ -10,7 +10,7 @@ use native.Mathlib.Omega.{arith}
 use borrow.Author.Tests.{eq-eqb, ne-eqb, le-leb, lt-leb}
 use lib.Dec.{eqb}
 use lib.ListN.{length}
-use Rattle.bencode.specs.Bytes.{byteAt}
+use Rattle.octets.specs.Bytes.{byteAt}
 use Rattle.desk.specs.declared.call.Call.{Call}
 use Rattle.strip.specs.declared.record.Record.{Record}
 use Rattle.strip.proofs.record.Record.{the-type}

@@ -2,7 +2,7 @@
 -- Assumes nothing.
 use mathlib.Core.Path.{sym, _∙_}
 use native.Mathlib.Omega.{arith}
-use Rattle.bencode.proofs.numerals.NumeralLaws.{inside}
+use Rattle.octets.proofs.digits.NumeralLaws.{inside}
 use Rattle.bencode.proofs.lookup.FieldLaws.{field-list, field-dictionary, field-integer, field-text}
 use borrow.Author.Needs.{needs}
 use Rattle.bencode.proofs.field.field_at.Statement.{statement}

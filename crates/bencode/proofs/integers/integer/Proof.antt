@@ -3,7 +3,7 @@
 use Prim.Native.Nat.{_+_}
 use mathlib.Core.Path.{_∙_}
 use native.Mathlib.Omega.{arith}
-use Rattle.bencode.proofs.numerals.NumeralLaws.{inside}
+use Rattle.octets.proofs.digits.NumeralLaws.{inside}
 use Rattle.bencode.proofs.scalars.IntegerLaws.{integer-other, integer-plus, integer-minus-zero, integer-minus}
 use borrow.Author.Needs.{needs}
 use Rattle.bencode.proofs.integers.integer.Statement.{statement}

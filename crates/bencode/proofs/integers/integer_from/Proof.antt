@@ -3,8 +3,8 @@
 use mathlib.Core.Path.{_≡_, _∙_}
 use native.Mathlib.Omega.{arith}
 use borrow.Author.Needs.{needs}
-use Rattle.bencode.specs.Bytes.{byteAt}
-use Rattle.bencode.proofs.numerals.NumeralLaws.{inside}
+use Rattle.octets.specs.Bytes.{byteAt}
+use Rattle.octets.proofs.digits.NumeralLaws.{inside}
 use Rattle.bencode.proofs.scalars.IntegerLaws.{integer-none, integer-no-end, integer-whole}
 use Rattle.bencode.proofs.integers.integer_from.Statement.{statement}
 use Rattle.bencode.proofs.integers.integer_from.Tie as tie

@@ -3,7 +3,7 @@
 use mathlib.Core.Path.{sym, _∙_}
 use native.Mathlib.Omega.{arith}
 use Rattle.bencode.specs.declared.strings.Text.{Text}
-use Rattle.bencode.specs.Bytes.{part}
+use Rattle.octets.specs.Bytes.{part}
 use Rattle.bencode.proofs.walking.Ends.{string-whole-inv}
 use Rattle.bencode.proofs.walking.KeyLaws.{above-none, above-text}
 use borrow.Author.Needs.{needs}

@@ -8,7 +8,7 @@ use lib.IntN.{natAbs}
 use lib.ListN.{length}
 use mir.Syntax.{w64}
 use mir.ValLaws.{toZ-ofZ}
-use Rattle.bencode.specs.Numeral.{decimal}
+use Rattle.octets.specs.Numerals.{decimal}
 use Rattle.bencode.specs.Value.{integer, sign, encode}
 use Rattle.bencode.proofs.writing.PutParts.{integer-size}
 use Rattle.bencode.proofs.put.integer_length.Statement.{statement}

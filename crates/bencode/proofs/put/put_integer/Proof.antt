@@ -10,7 +10,7 @@ use lib.ListN.{length}
 use mir.Syntax.{w64}
 use mir.ValLaws.{toZ-ofZ}
 use Rattle.bencode.specs.Value.{integer, encode}
-use Rattle.bencode.proofs.writing.PutLaws.{wrote-put, put-none}
+use Rattle.octets.proofs.writing.PutLaws.{wrote-put, put-none}
 use Rattle.bencode.proofs.put.put_integer.Statement.{statement}
 use Rattle.bencode.proofs.put.put_integer.Tie as tie
 

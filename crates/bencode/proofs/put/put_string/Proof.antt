@@ -6,9 +6,9 @@ use native.Mathlib.Omega.{arith}
 use borrow.Author.Needs.{needs}
 use borrow.Author.Tests.{ltb-false, ltb-true}
 use lib.ListN.{length}
-use Rattle.bencode.specs.Numeral.{decimal}
+use Rattle.octets.specs.Numerals.{decimal}
 use Rattle.bencode.specs.Value.{encodeString}
-use Rattle.bencode.proofs.writing.PutLaws.{wrote-put, put-none}
+use Rattle.octets.proofs.writing.PutLaws.{wrote-put, put-none}
 use Rattle.bencode.proofs.writing.PutParts.{string-size}
 use Rattle.bencode.proofs.put.put_string.Statement.{statement}
 use Rattle.bencode.proofs.put.put_string.Tie as tie

@@ -9,10 +9,10 @@ use lib.IntN.{natAbs}
 use lib.ListN.{length}
 use mir.Syntax.{w64}
 use mir.ValLaws.{toZ-ofZ}
-use Rattle.bencode.specs.Numeral.{decimal}
+use Rattle.octets.specs.Numerals.{decimal}
 use Rattle.bencode.specs.Value.{sign}
-use Rattle.bencode.specs.Put.{Wrote}
-use Rattle.bencode.proofs.writing.PutLaws.{Writing, start, room-next, next, finish}
+use Rattle.octets.specs.Put.{Wrote}
+use Rattle.octets.proofs.writing.PutLaws.{Writing, start, room-next, next, next-put, finish}
 use Rattle.bencode.proofs.writing.PutParts.{integerParts, integer-parts}
 use Rattle.bencode.proofs.put.store_integer.Statement.{statement}
 use Rattle.bencode.proofs.put.store_integer.Tie as tie
@@ -33,14 +33,14 @@ w2 c =
     let a = p .before .before .before in
     next (w1 p) (rw (toZ-ofZ w64 (a .args .v) (a .fits .v)) at (c .store-sign .ensures))
 
-w3 : (c : tie.After-store-decimal) →
+w3 : (c : tie.After-put-decimal) →
     let a = c .before .before .before .before .before .before .before .before .before .before .before .before in
-    Writing (now (a .args .out)) (a .args .at) (integerParts (a .args .v)) (c .store-decimal .last .0) (c .store-decimal .result) ((101 ∷ []) ∷ [])
+    Writing (now (a .args .out)) (a .args .at) (integerParts (a .args .v)) (c .put-decimal .last .0) (c .put-decimal .result) ((101 ∷ []) ∷ [])
 w3 c =
     let p = c .before .before .before .before .before in
     let a = p .before .before .before .before .before .before .before in
     let m : c .before .magnitude .result ≡ natAbs (a .args .v) = rw (toZ-ofZ w64 (a .args .v) (a .fits .v)) at (c .before .magnitude .ensures) in
-    next (w2 p) (rw m at (c .store-decimal .ensures))
+    next-put (w2 p) (rw m at (c .put-decimal .ensures))
 
 store-byte-requires : tie.Need-store-byte-requires
 store-byte-requires c κs = room-next (w0 (c .before .before))
@@ -54,12 +54,8 @@ store-sign-requires c κs =
 magnitude-requires : tie.Need-magnitude-requires
 magnitude-requires c κs = search needs
 
-store-decimal-requires : tie.Need-store-decimal-requires
-store-decimal-requires c κs =
-    let p = c .before .before .before .before in
-    let a = p .before .before .before .before .before .before .before in
-    let m : c .magnitude .result ≡ natAbs (a .args .v) = rw (toZ-ofZ w64 (a .args .v) (a .fits .v)) at (c .magnitude .ensures) in
-    rw m (room-next (w2 p))
+put-decimal-requires : tie.Need-put-decimal-requires
+put-decimal-requires c κs = search needs
 
 store-byte-requires-2 : tie.Need-store-byte-requires-2
 store-byte-requires-2 c κs = room-next (w3 (c .before .before .before))
@@ -80,7 +76,7 @@ store-integer-spec =
     store-byte-requires
     store-sign-requires
     magnitude-requires
-    store-decimal-requires
+    put-decimal-requires
     store-byte-requires-2
     same-length
     returns)

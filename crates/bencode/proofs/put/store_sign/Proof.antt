@@ -1,7 +1,7 @@
 use mathlib.Core.Path.{ap}
 use native.Mathlib.Omega.{arith}
 use lib.ListN.{length}
-use Rattle.bencode.proofs.writing.PutLaws.{wrote-none, wrote-byte}
+use Rattle.octets.proofs.writing.PutLaws.{wrote-none, wrote-byte}
 use Rattle.bencode.proofs.scalars.SignedLaws.{negative, natural}
 use borrow.Author.Needs.{needs}
 use Rattle.bencode.proofs.put.store_sign.Statement.{statement}

@@ -2,7 +2,7 @@
 -- Assumes nothing.
 use mathlib.Core.Path.{refl, sym, _∙_}
 use borrow.Author.Tests.{eq-eqb, ne-eqb}
-use Rattle.bencode.specs.Bytes.{byteAt}
+use Rattle.octets.specs.Bytes.{byteAt}
 use Rattle.bencode.specs.Scalar.{scalarAt}
 use borrow.Author.Needs.{needs}
 use Rattle.bencode.proofs.scalar.scalar_end.Statement.{statement}

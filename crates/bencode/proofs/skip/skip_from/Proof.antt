@@ -5,9 +5,9 @@ use mathlib.Core.Path.{_≡_, refl, sym, ap, _∙_}
 use native.Mathlib.Omega.{arith}
 use borrow.Author.Needs.{needs}
 use lib.ListN.{length}
-use Rattle.bencode.specs.Bytes.{byteAt}
+use Rattle.octets.specs.Bytes.{byteAt}
 use Rattle.bencode.specs.Skip.{opens, skipFrom}
-use Rattle.bencode.proofs.numerals.NumeralLaws.{inside}
+use Rattle.octets.proofs.digits.NumeralLaws.{inside}
 use Rattle.bencode.proofs.walking.Ends.{scalar-ends}
 use Rattle.bencode.proofs.lookup.SkipLaws.{opens-some, skip-open, skip-last, skip-close, skip-fault, skip-scalar-last, skip-scalar}
 use Rattle.bencode.proofs.skip.skip_from.Statement.{statement}

@@ -2,8 +2,8 @@
 -- Assumes nothing.
 use mathlib.Core.Path.{_≡_, _∙_}
 use native.Mathlib.Omega.{arith}
-use Rattle.bencode.specs.Bytes.{byteAt}
-use Rattle.bencode.proofs.numerals.NumeralLaws.{inside}
+use Rattle.octets.specs.Bytes.{byteAt}
+use Rattle.octets.proofs.digits.NumeralLaws.{inside}
 use Rattle.bencode.proofs.scalars.StringLaws.{string-none, string-no-colon, string-short, string-whole}
 use borrow.Author.Needs.{needs}
 use Rattle.bencode.proofs.strings.string.Statement.{statement}

@@ -10,10 +10,10 @@ use borrow.Author.Needs.{needs}
 use lib.ListN.{length}
 use Rattle.bencode.specs.declared.strings.Text.{Text}
 use Rattle.bencode.specs.Strings.{stringAt}
-use Rattle.bencode.specs.Bytes.{part}
+use Rattle.octets.specs.Bytes.{part}
 use Rattle.bencode.specs.Depth.{levelsLeft}
 use Rattle.bencode.specs.Walk.{valueAt, listAt, dictionaryAt, dictionaryFrom}
-use Rattle.bencode.proofs.numerals.NumeralLaws.{inside}
+use Rattle.octets.proofs.digits.NumeralLaws.{inside}
 use Rattle.bencode.proofs.walking.Ends.{string-whole-inv}
 use Rattle.bencode.proofs.walking.WalkLaws.{value-ends, value-scalar, value-list, value-dictionary, value-deep-list, value-deep-dictionary, list-end, list-fault, list-more, dictionary-end, dictionary-no-key, dictionary-refused, dictionary-fault, dictionary-more}
 use Rattle.bencode.proofs.walking.DepthLaws.{deeper-left, too-deep-left}
@@ -29,7 +29,7 @@ use Rattle.bencode.proofs.walk.+dictionary+list+value.Lts-list as list-
 use Rattle.bencode.proofs.walk.value.Reads as value
 use Rattle.bencode.proofs.walk.value.Kinds as value-kinds
 use Rattle.bencode.proofs.walk.+dictionary+list+value.Lts-value as value-lts
-use Rattle.bencode.proofs.bytes.byte_at.Reads as byte-at-reads
+use Rattle.octets.proofs.byte_at.Reads as byte-at-reads
 use Rattle.bencode.proofs.depth.Depth.nested.Reads as nested-reads
 use Rattle.bencode.proofs.key.check_key.Reads as check-key-reads
 use Rattle.bencode.proofs.scalar.scalar_end.Reads as scalar-end-reads

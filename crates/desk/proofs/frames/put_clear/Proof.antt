@@ -9,7 +9,7 @@ use denote.Ref.{now}
 use mir.Syntax.{w32}
 use mir.Val.{SFits}
 use mir.ValLaws.{toZ-ofZ}
-use Rattle.bencode.proofs.writing.PutLaws.{Writing, start, next-put, finish}
+use Rattle.octets.proofs.writing.PutLaws.{Writing, start, next-put, finish}
 use Rattle.desk.specs.declared.lists.Pick.{Pick}
 use Rattle.desk.specs.Watch.{pickIds}
 use Rattle.desk.specs.Record.{watched}

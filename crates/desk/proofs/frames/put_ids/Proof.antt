@@ -5,7 +5,7 @@ use mathlib.Core.List.{List, [], _∷_}
 use native.Mathlib.Omega.{arith}
 use denote.Ref.{now}
 use Rattle.bencode.specs.Value.{encodeAll}
-use Rattle.bencode.proofs.writing.PutLaws.{Writing, start, room-next, next, next-put, finish}
+use Rattle.octets.proofs.writing.PutLaws.{Writing, start, room-next, next, next-put, finish}
 use Rattle.desk.specs.Watch.{pickIds}
 use Rattle.desk.specs.Record.{watched}
 use Rattle.desk.specs.Command.{values}

@@ -8,9 +8,9 @@ use native.Mathlib.Omega.{arith}
 use lib.ListN.{length, length-map, getD, drop}
 use borrow.Author.Needs.{needs}
 use lib.IntN.{pos}
-use Rattle.bencode.specs.Put.{Put}
+use Rattle.octets.specs.Put.{Put}
 use Rattle.bencode.specs.Value.{integer, encode}
-use Rattle.bencode.proofs.writing.PutLaws.{Writing, start, finish}
+use Rattle.octets.proofs.writing.PutLaws.{Writing, start, finish}
 use Rattle.bencode.proofs.scalars.Ranges.{natural-machine}
 use Rattle.desk.specs.Watch.{empty, filtered, pickIds}
 use Rattle.desk.specs.Record.{watched}

@@ -4,7 +4,7 @@ use mathlib.Core.Path.{subst, sym}
 use mathlib.Core.List.{[]}
 use denote.Ref.{now}
 use lib.IntN.{ℤ}
-use Rattle.bencode.specs.Put.{Put}
+use Rattle.octets.specs.Put.{Put}
 use Rattle.ipc.specs.declared.writer.Given.{Given}
 use Rattle.desk.specs.Command.{limitFrame, Writable}
 use Rattle.desk.proofs.numbers.LimitLaws.{wide-fits, wide}

@@ -7,7 +7,7 @@ use mathlib.Core.List.{List, [], _∷_}
 use native.Mathlib.Omega.{arith}
 use lib.ListN.{length, replicate}
 use Rattle.bencode.specs.Value.{encodeAll}
-use Rattle.bencode.proofs.writing.PutLaws.{Writing, start, next-put, finish}
+use Rattle.octets.proofs.writing.PutLaws.{Writing, start, next-put, finish}
 use Rattle.bencode.proofs.scalars.Ranges.{natural-machine}
 use Rattle.desk.specs.Watch.{isId}
 use Rattle.desk.specs.Command.{values, idList}

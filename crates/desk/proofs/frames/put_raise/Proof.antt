@@ -6,7 +6,7 @@ use mathlib.Core.Logic.{inl, inr}
 use mathlib.Core.List.{List, [], _∷_}
 use native.Mathlib.Omega.{arith}
 use denote.Ref.{now}
-use Rattle.bencode.proofs.writing.PutLaws.{Writing, start, next-put, finish}
+use Rattle.octets.proofs.writing.PutLaws.{Writing, start, next-put, finish}
 use Rattle.desk.specs.declared.lists.Pick.{Pick}
 use Rattle.desk.specs.Limit.{unlimited, isLimit}
 use Rattle.desk.specs.Watch.{pickIds}

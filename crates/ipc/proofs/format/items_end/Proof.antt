@@ -5,7 +5,7 @@ use native.Mathlib.Omega.{arith}
 use Prim.Native.Nat.{_-_}
 use borrow.Author.Needs.{needs}
 use lib.ListN.{length}
-use Rattle.bencode.proofs.numerals.NumeralLaws.{inside}
+use Rattle.octets.proofs.digits.NumeralLaws.{inside}
 use Rattle.ipc.specs.Format.{itemsEnd}
 use Rattle.ipc.proofs.formats.FormatLaws.{item-ends, items-last, items-off, items-more}
 use Rattle.ipc.proofs.format.items_end.Statement.{statement}

@@ -3,8 +3,8 @@
 use mathlib.Core.Path.{sym, _∙_}
 use native.Mathlib.Omega.{arith}
 use borrow.Author.Needs.{needs}
-use Rattle.bencode.specs.Ascii.{ascii}
-use Rattle.bencode.proofs.numerals.NumeralLaws.{inside}
+use Rattle.octets.specs.Ascii.{ascii}
+use Rattle.octets.proofs.digits.NumeralLaws.{inside}
 use Rattle.ipc.proofs.formats.FormatLaws.{torrent-other, torrent-id, torrent-no-id}
 use Rattle.ipc.proofs.format.torrent_end.Statement.{statement}
 use Rattle.ipc.proofs.format.torrent_end.Tie as tie

@@ -2,7 +2,7 @@
 -- Assumes nothing.
 use mathlib.Core.Path.{sym, _∙_}
 use borrow.Author.Needs.{needs}
-use Rattle.bencode.specs.Ascii.{ascii}
+use Rattle.octets.specs.Ascii.{ascii}
 use Rattle.ipc.proofs.frames.HandshakeLaws.{range-no-min, range-no-max, range-integers}
 use Rattle.ipc.proofs.handshake.range_at.Statement.{statement}
 use Rattle.ipc.proofs.handshake.range_at.Tie as tie

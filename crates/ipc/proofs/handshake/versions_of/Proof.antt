@@ -2,7 +2,7 @@
 -- Assumes nothing.
 use mathlib.Core.Path.{sym, _∙_}
 use borrow.Author.Needs.{needs}
-use Rattle.bencode.specs.Ascii.{ascii}
+use Rattle.octets.specs.Ascii.{ascii}
 use Rattle.ipc.proofs.frames.HandshakeLaws.{versions-integer, versions-dictionary, versions-other}
 use Rattle.ipc.proofs.handshake.versions_of.Statement.{statement}
 use Rattle.ipc.proofs.handshake.versions_of.Tie as tie

@@ -7,8 +7,8 @@ use denote.Ref.{now}
 use borrow.Author.Needs.{needs}
 use lib.IntN.{pos}
 use Rattle.bencode.specs.Value.{integer, encode}
-use Rattle.bencode.proofs.writing.PutLaws.{Writing, next-put}
-use Rattle.bencode.specs.Ascii.{ascii}
+use Rattle.octets.proofs.writing.PutLaws.{Writing, next-put}
+use Rattle.octets.specs.Ascii.{ascii}
 use Rattle.bencode.proofs.scalars.Ranges.{natural-machine}
 use Rattle.ipc.specs.Hex.{hexHeader}
 use Rattle.ipc.specs.HandshakeWriter.{handshakePayload}

@@ -6,7 +6,7 @@ use Prim.Native.Nat.{ℕ}
 use mathlib.Core.List.{List}
 use lib.ListN.{length-take}
 use native.Mathlib.Omega.{arith}
-use Rattle.bencode.specs.Bytes.{same}
+use Rattle.octets.specs.Bytes.{same}
 use Rattle.ipc.proofs.listed.KeyLaws.{table-name, table-fits}
 -- uses-end
 use borrow.Author.Needs.{needs}

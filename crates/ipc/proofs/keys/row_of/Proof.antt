@@ -1,7 +1,7 @@
 -- `ipc::keys::row_of` meets its contract.
 -- Assumes nothing.
 use mathlib.Core.Path.{_∙_}
-use Rattle.bencode.specs.Ascii.{ascii}
+use Rattle.octets.specs.Ascii.{ascii}
 use Rattle.ipc.proofs.listed.KeyLaws.{row-none, row-past, row-here}
 use borrow.Author.Needs.{needs}
 use Rattle.ipc.proofs.keys.row_of.Statement.{statement}

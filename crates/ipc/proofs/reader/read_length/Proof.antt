@@ -4,7 +4,7 @@ use mathlib.Core.Path.{ap, _∙_}
 use native.Mathlib.Omega.{arith}
 use borrow.Author.Needs.{needs}
 use Prim.Native.Nat.{ℕ, _+_}
-use Rattle.bencode.specs.Bytes.{part}
+use Rattle.octets.specs.Bytes.{part}
 use Rattle.ipc.specs.Reader.{payloadReading}
 use Rattle.ipc.proofs.frames.FrameLaws.{length-short, length-there}
 use Rattle.ipc.proofs.reader.read_length.Statement.{statement}

@@ -7,9 +7,9 @@ use native.Mathlib.Omega.{arith}
 use denote.Ref.{now}
 use borrow.Author.Needs.{needs}
 use lib.ListN.{length}
-use Rattle.bencode.specs.Put.{Put, Wrote}
+use Rattle.octets.specs.Put.{Put, Wrote}
 use Rattle.bencode.specs.Value.{encodeString}
-use Rattle.bencode.proofs.writing.PutLaws.{Writing, start, next-put, finish}
+use Rattle.octets.proofs.writing.PutLaws.{Writing, start, next-put, finish}
 use Rattle.ipc.specs.declared.keys.Class.{Class}
 use Rattle.ipc.specs.declared.writer.Given.{Given}
 use Rattle.ipc.specs.Hex.{hexHeader}

@@ -9,7 +9,7 @@ use borrow.Author.Tests.{eq-eqb, ne-eqb}
 use lib.IntN.{ℤ, pos}
 use mir.Syntax.{w64}
 use mir.Val.{toZ}
-use Rattle.bencode.specs.Put.{Put}
+use Rattle.octets.specs.Put.{Put}
 use Rattle.bencode.specs.Value.{integer, encode}
 use Rattle.bencode.proofs.scalars.Ranges.{natural-machine}
 use Rattle.ipc.specs.Writer.{encodeTag}

@@ -7,7 +7,7 @@ use borrow.Author.Needs.{needs}
 use lib.IntN.{ℤ}
 use mir.Syntax.{w64}
 use mir.Val.{SFits}
-use Rattle.bencode.specs.Put.{Put}
+use Rattle.octets.specs.Put.{Put}
 use Rattle.bencode.specs.Value.{integer, encode}
 use Rattle.bencode.proofs.scalars.Ranges.{machine, same}
 use Rattle.ipc.specs.declared.keys.Class.{Class}

@@ -2,7 +2,7 @@
 -- Assumes nothing.
 use denote.Ref.{now}
 use native.Mathlib.Omega.{arith}
-use Rattle.bencode.proofs.writing.PutLaws.{next-put, finish}
+use Rattle.octets.proofs.writing.PutLaws.{next-put, finish}
 use Rattle.strip.specs.Line.{callLine}
 use Rattle.strip.proofs.printing.LineLaws.{call-start}
 use borrow.Author.Needs.{needs}

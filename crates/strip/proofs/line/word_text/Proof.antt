@@ -2,7 +2,7 @@
 -- Assumes nothing.
 use denote.Ref.{now}
 use native.Mathlib.Omega.{arith}
-use Rattle.bencode.proofs.writing.PutLaws.{next-put}
+use Rattle.octets.proofs.writing.PutLaws.{next-put}
 use Rattle.strip.specs.Line.{wordText}
 use Rattle.strip.proofs.printing.LineLaws.{word-start, word-done}
 use borrow.Author.Needs.{needs}

@@ -4,7 +4,7 @@ use mathlib.Core.Path.{_≡_, sym, ap, _∙_}
 use mathlib.Core.Bool.{true, false}
 use borrow.Author.Tests.{not-true, not-false}
 use lib.Dec.{eqb}
-use Rattle.bencode.specs.Bytes.{byteAt}
+use Rattle.octets.specs.Bytes.{byteAt}
 use Rattle.strip.specs.Record.{mayStand, bodyLength}
 use Rattle.strip.proofs.records.RecordLaws.{whole-stray, whole-cut, whole-there}
 use borrow.Author.Needs.{needs}

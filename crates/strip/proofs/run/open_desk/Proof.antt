@@ -2,7 +2,7 @@
 -- Assumes nothing.
 use mir.Syntax.{w32}
 use mir.ValLaws.{toZ-ofZ}
-use Rattle.bencode.specs.Ascii.{ascii}
+use Rattle.octets.specs.Ascii.{ascii}
 use Rattle.strip.proofs.running.RunLaws.{opened-is}
 use borrow.Author.Needs.{needs}
 use Rattle.strip.proofs.run.open_desk.Statement.{statement}

@@ -1,7 +1,7 @@
 -- `strip::run::take_fault` meets its contract.
 -- Assumes nothing.
 use mathlib.Core.Path.{refl}
-use Rattle.bencode.specs.Ascii.{ascii}
+use Rattle.octets.specs.Ascii.{ascii}
 use Rattle.strip.specs.Run.{faulted}
 use borrow.Author.Needs.{needs}
 use Rattle.strip.proofs.run.take_fault.Statement.{statement}

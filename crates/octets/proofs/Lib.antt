@@ -1,0 +1,3 @@
+pub mod sequences
+pub mod digits
+pub mod writing

@@ -1,0 +1,3 @@
+pub mod BeginsLaws
+pub mod Equality
+pub mod Order

@@ -1,0 +1,4 @@
+pub mod Ascii
+pub mod Bytes
+pub mod Numerals
+pub mod Put
