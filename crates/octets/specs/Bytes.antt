@@ -1,4 +1,4 @@
--- To be believed. Bytes of a payload by offset, and byte strings compared: raw bytes, no text.
+-- To be believed. Bytes by offset, and byte strings compared: raw bytes, no text.
 -- Assumes nothing.
 use Prim.Native.Nat.{ℕ, _+_, _-_}
 use mathlib.Core.Path.{_≡_}

@@ -1,5 +1,5 @@
--- `decimal` is to be believed; reading is pinned by `ReadsInteger` and `ReadsString`. Decimal numerals (document 01, 'The
--- frame': no leading zero).
+-- `decimal` is to be believed; reading is pinned by bencode's `ReadsInteger` and `ReadsString`. Decimal numerals (document
+-- 01, 'The frame': no leading zero).
 -- Assumes nothing.
 use Prim.Native.Nat.{ℕ, zero, suc, _+_, _-_, _*_, _/_, _%_, _^_, min}
 use mathlib.Core.Bool.{Bool, cond, _&&_}

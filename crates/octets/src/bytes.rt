@@ -1,8 +1,8 @@
-// Bytes of a payload by offset, and byte strings compared.
+// Bytes by offset, and byte strings compared.
 ghost use mathlib.Core.Path.{_≡_};
 ghost use Rattle.octets.specs.Bytes.{byteAt, same, less};
 
-// The byte at an offset, and 0 past the end: 0 may stand nowhere outside a string.
+// The byte at an offset, and 0 past the end: no format that is read with it has a 0 where its end matters.
 pub fn byte_at(s: &[u8], at: usize) -> u8
     ensures { λ r. ⌜ r ≡ byteAt (now (s .entry)) at ⌝ }
 {

@@ -1,4 +1,4 @@
-// Decimal numerals: the lengths of strings and the digits of integers.
+// Decimal numerals, read.
 ghost use mathlib.Core.Path.{_≡_};
 ghost use Prim.Native.Nat.{_+_, _-_, _*_, _^_, min};
 ghost use Rattle.octets.specs.Numerals.{digitsAt, numeralAt, capped};

@@ -5,7 +5,6 @@ use lib.ListN.{length, length-set}
 use lib.Seq.{sets}
 use Rattle.octets.specs.Numerals.{decimal}
 use Rattle.octets.proofs.digits.DigitLaws.{places, decimal-filled, lt-decimal, pow-down, put-digit}
-use borrow.Author.Needs.{needs}
 use Rattle.octets.proofs.decimal.store_decimal.Statement.{statement}
 use Rattle.octets.proofs.decimal.store_decimal.Tie as tie
 
