@@ -50,6 +50,55 @@ pub const TEXT: u8 = 2;
 pub const PART: u8 = 3;
 pub const VERSIONS: u8 = 4;
 
+/// Kinds of value for `write_numbers`; any other number is refused by 41.
+pub const GIVEN_NOTHING: u32 = 0;
+pub const GIVEN_INTEGER: u32 = 1;
+pub const GIVEN_BYTES: u32 = 2;
+
+// Numbers of the keys, and the format of each one's value.
+/// Any value, as it is encoded; the key itself is the string at offset 9 of the frame.
+pub const UNLISTED: u32 = 0;
+/// Integer 0 or 1.
+pub const AUTOMAP: u32 = 1;
+/// Integer 0 or 1.
+pub const AUTOSTART: u32 = 2;
+/// Ignored.
+pub const BAD_FORMAT: u32 = 3;
+/// Text.
+pub const DIRECTORY: u32 = 4;
+/// Integer.
+pub const DOWNLIMIT: u32 = 5;
+/// Text.
+pub const FAILED: u32 = 6;
+/// Ignored.
+pub const GET_DOWNLIMIT: u32 = 7;
+/// List of strings; read, not written.
+pub const GET_STATUS_ALL: u32 = 8;
+/// Ignored.
+pub const GET_UPLIMIT: u32 = 9;
+/// List of torrents; read, not written.
+pub const INFO: u32 = 10;
+/// Ignored.
+pub const NOOP: u32 = 11;
+/// Ignored.
+pub const NOT_SUPPORTED: u32 = 12;
+/// Integer 0 or 1.
+pub const PEX: u32 = 13;
+/// Integer 0 to 65535.
+pub const PORT: u32 = 14;
+/// List of torrent IDs, as it is encoded: `li3ei8ee`.
+pub const REMOVE: u32 = 15;
+/// List of torrent IDs.
+pub const START: u32 = 16;
+/// List of torrents; read, not written.
+pub const STATUS: u32 = 17;
+/// List of torrent IDs.
+pub const STOP: u32 = 18;
+/// Ignored.
+pub const SUCCEEDED: u32 = 19;
+/// Integer.
+pub const UPLIMIT: u32 = 20;
+
 /// The value of an answer. What the kind does not name is 0.
 #[repr(C)]
 #[derive(Clone, Copy, Debug, Default, PartialEq, Eq)]
@@ -137,9 +186,9 @@ pub fn walk(payload: &[u8], strict: bool) -> WalkAnswer {
 
 pub fn write(key: u32, given: Given, tag: u32, out: &mut [u8]) -> WriteAnswer {
     match given {
-        Given::Nothing => write_numbers(key, 0, 0, &[], tag, out),
-        Given::Integer(integer) => write_numbers(key, 1, integer, &[], tag, out),
-        Given::Bytes(bytes) => write_numbers(key, 2, 0, bytes, tag, out),
+        Given::Nothing => write_numbers(key, GIVEN_NOTHING, 0, &[], tag, out),
+        Given::Integer(integer) => write_numbers(key, GIVEN_INTEGER, integer, &[], tag, out),
+        Given::Bytes(bytes) => write_numbers(key, GIVEN_BYTES, 0, bytes, tag, out),
     }
 }
 

@@ -12,12 +12,12 @@ use Rattle.bencode.specs.declared.strings.Text.{Text}
 use Rattle.bencode.specs.declared.integers.Number.{Number}
 use Rattle.bencode.specs.declared.fault.Walk.{Walk}
 use Rattle.bencode.specs.declared.profile.Profile.{Profile}
-use Rattle.octets.specs.Bytes.{byteAt, part}
+use Rattle.octets.specs.Bytes.{byteAt, slice}
 use Rattle.octets.specs.Numerals.{numeralAt}
 use Rattle.bencode.specs.Fault.{fault}
 use Rattle.bencode.specs.Strings.{stringAt, textEnd}
 use Rattle.bencode.specs.Integers.{signed, integerFrom, integerAt, numberEnd}
-use Rattle.bencode.specs.Loop.{Step, next, done, after, repeat}
+use Rattle.bencode.specs.Loop.{LoopStep, next, done, afterStep, repeat}
 use Rattle.bencode.specs.Key.{isUsed, isAbove, orderFault, isFaultCode, keyFault}
 use Rattle.bencode.specs.Scalar.{scalarAt}
 use Rattle.bencode.specs.Walk.{onward, listStep, listFrom, entryStep, dictionaryStep, dictionaryFrom, valueAt, whole, payloadAt}
@@ -87,16 +87,16 @@ module _ (p : Profile) where
       go false false Profile.Strict e = refl
 
   -- ---- loops
-  Stops : {X : Type 0} → Step X Walk → Type 0
+  Stops : {X : Type 0} → LoopStep X Walk → Type 0
   Stops (next to y) = Unit {0}
   Stops (done w) = Coded w
 
-  repeat-coded : {X : Type 0} (step : ℕ → X → Step X Walk) → ((at : ℕ) (x : X) → Stops (step at x)) → (w : Walk) → Coded w → (n at : ℕ) (x : X) → Coded (repeat step w n at x)
+  repeat-coded : {X : Type 0} (step : ℕ → X → LoopStep X Walk) → ((at : ℕ) (x : X) → Stops (step at x)) → (w : Walk) → Coded w → (n at : ℕ) (x : X) → Coded (repeat step w n at x)
   unfolding repeat Stops
   repeat-coded step h w c zero at x = c
   repeat-coded {X} step h w c (suc n) at x = go (step at x) (h at x) (λ to y. repeat-coded step h w c n to y)
     where
-      go : (t : Step X Walk) → Stops t → ((to : ℕ) (y : X) → Coded (repeat step w n to y)) → Coded (after t (λ to y. repeat step w n to y))
+      go : (t : LoopStep X Walk) → Stops t → ((to : ℕ) (y : X) → Coded (repeat step w n to y)) → Coded (afterStep t (λ to y. repeat step w n to y))
       go (next to y) s rec = rec to y
       go (done v) s rec = s
 
@@ -131,7 +131,7 @@ module _ (p : Profile) where
             go : (t : Bool) (k : Text) → Coded (textEnd k) → Stops (cond t (done (Walk.End (at + 1))) (entryStep p value s at x k))
             go true k c = tt
             go false (Text.Fault f) c = c
-            go false (Text.Bytes start end) c = allowed (part s start end) end (part s start end ∷ x) (eqb (keyFault p x (part s start end)) 0) refl
+            go false (Text.Bytes start end) c = allowed (slice s start end) end (slice s start end ∷ x) (eqb (keyFault p x (slice s start end)) 0) refl
 
   value-coded : (levels : ℕ) (s : List ℕ) (at : ℕ) → Coded (valueAt p levels s at)
   unfolding valueAt

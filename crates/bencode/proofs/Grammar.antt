@@ -1,4 +1,5 @@
--- The walker accepts exactly the grammar: a payload is walked to its end if and only if it is the encoding of a well-formed value.
+-- The walker accepts exactly the grammar: a payload is walked to its end if and only if it is the encoding of a well-formed
+-- value.
 -- Assumes nothing.
 use Prim.Native.Nat.{ℕ}
 use mathlib.Core.Path.{_≡_, refl, sym, ap, _∙_}

@@ -1,4 +1,4 @@
-pub mod sequences
+pub mod loops
 pub mod scalars
 pub mod walking
 pub mod lookup

@@ -11,7 +11,7 @@ use Rattle.bencode.specs.declared.entry.Entry.{Entry}
 use Rattle.bencode.specs.declared.fault.Fault.{Fault}
 use Rattle.bencode.specs.declared.integers.Number.{Number}
 use Rattle.bencode.specs.declared.strings.Text.{Text}
-use Rattle.octets.specs.Bytes.{byteAt, part, same, Begins}
+use Rattle.octets.specs.Bytes.{byteAt, slice, same, Begins}
 use Rattle.bencode.specs.Fault.{fault}
 use Rattle.bencode.specs.Strings.{stringAt}
 use Rattle.bencode.specs.Integers.{InRange, integerAt}
@@ -26,7 +26,7 @@ use Rattle.bencode.proofs.lookup.EntryLaws.{find-none, find-here, find-
 use Rattle.bencode.proofs.lookup.ItemLaws.{item-last, item-value}
 use Rattle.octets.proofs.sequences.BeginsLaws.{begins-left, begins-right, begins-head}
 use Rattle.bencode.proofs.values.Encodings.{entries-text}
-use Rattle.bencode.proofs.walking.FirstBytes.{FirstByte, first-byte, no-end, no-string}
+use Rattle.bencode.proofs.values.FirstBytes.{FirstByte, first-byte, no-end, no-string}
 use Rattle.bencode.proofs.scalars.IntegerLaws.{integer-other}
 use Rattle.bencode.proofs.values.ScalarReads.{string-reads, integer-reads}
 use Rattle.bencode.proofs.values.Complete.{value-no-e, value-reads, list-reads, dictionary-reads}
@@ -62,12 +62,12 @@ reads-integer p levels (string text) s at end formed b = no-integer s at (λ q. 
 reads-integer p levels (list vs) s at end formed b = no-integer s at (λ q. omega (arith, starts (list vs) s at end b))
 reads-integer p levels (dictionary es) s at end formed b = no-integer s at (λ q. omega (arith, starts (dictionary es) s at end b))
 
-string-stands : (s : List ℕ) (at end : ℕ) (text : List ℕ) → Begins s at (encode (string text)) end → (stringAt s at ≡ Text.Bytes (end - length text) end) × (part s (end - length text) end ≡ text)
+string-stands : (s : List ℕ) (at end : ℕ) (text : List ℕ) → Begins s at (encode (string text)) end → (stringAt s at ≡ Text.Bytes (end - length text) end) × (slice s (end - length text) end ≡ text)
 unfolding encode
 string-stands s at end text b =
     let r = string-reads s at end text b in
     let start : r .0 ≡ end - length text = omega (arith, r .3) in
-    (r .1 ∙ ap (λ (k : ℕ). Text.Bytes k end) start, ap (λ (k : ℕ). part s k end) (sym start) ∙ r .2)
+    (r .1 ∙ ap (λ (k : ℕ). Text.Bytes k end) start, ap (λ (k : ℕ). slice s k end) (sym start) ∙ r .2)
 
 pub reads-string : ReadsString
 reads-string (string text) s at end b = string-stands s at end text b
@@ -113,7 +113,7 @@ finds-entry p levels (entry k v es) keys s at end key formed b =
     let rest = finds-entry p levels es (k ∷ keys) s (m + length (encode v)) end key (formed .2) after in
     go (same k key) refl (r .0) m (r .1) (ap (λ (l : List ℕ). same l key) (r .2)) stands (skips-entries p levels es (k ∷ keys) s (m + length (encode v)) end (formed .2) after) refl rest
   where
-    go : (t : Bool) → same k key ≡ t → (start m : ℕ) → stringAt s at ≡ Text.Bytes start m → same (part s start m) key ≡ same k key → Begins s m (encode v) (m + length (encode v)) → skipRest s (m + length (encode v)) ≡ end → m ≡ at + length (encodeString k) → (entryAt s key (m + length (encode v)) ≡ lookupAt key es (at + length (encodeString k) + length (encode v))) × Located p levels s end (lookup key es) (entryAt s key (m + length (encode v)))
+    go : (t : Bool) → same k key ≡ t → (start m : ℕ) → stringAt s at ≡ Text.Bytes start m → same (slice s start m) key ≡ same k key → Begins s m (encode v) (m + length (encode v)) → skipRest s (m + length (encode v)) ≡ end → m ≡ at + length (encodeString k) → (entryAt s key (m + length (encode v)) ≡ lookupAt key es (at + length (encodeString k) + length (encode v))) × Located p levels s end (lookup key es) (entryAt s key (m + length (encode v)))
         → (entryAt s key at ≡ cond t (Entry.At (at + length (encodeString k))) (lookupAt key es (at + length (encodeString k) + length (encode v)))) × Located p levels s end (cond t (found v) (lookup key es)) (entryAt s key at)
     go true q start m x i stands skipped is rest =
         let here = find-here s key at start m x (i ∙ q) in

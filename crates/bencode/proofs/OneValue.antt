@@ -8,13 +8,13 @@ use lib.IntN.{ℤ, pos, negsuc}
 use lib.ListN.{length}
 use Rattle.octets.specs.declared.numerals.Decimal.{Decimal}
 use Rattle.bencode.specs.declared.strings.Text.{Text}
-use Rattle.octets.specs.Bytes.{byteAt, part, Begins}
+use Rattle.octets.specs.Bytes.{byteAt, slice, Begins}
 use Rattle.octets.specs.Numerals.{numeralAt, decimal}
 use Rattle.bencode.specs.Value.{Value, integer, string, list, dictionary, Values, no-value, value, Entries, no-entry, entry, signedDecimal, encodeString, encode, encodeAll, encodeEntries}
 use Rattle.bencode.specs.Demands.{OneValue}
 use Rattle.octets.proofs.sequences.BeginsLaws.{begins-left, begins-right, begins-head}
 use Rattle.bencode.proofs.values.Encodings.{values-text, entries-text}
-use Rattle.bencode.proofs.walking.FirstBytes.{FirstByte, first-byte, string-first, no-end}
+use Rattle.bencode.proofs.values.FirstBytes.{FirstByte, first-byte, string-first, no-end}
 use Rattle.bencode.proofs.values.ScalarReads.{first-digit, numeral-reads, no-digit, string-reads}
 
 module _ (s : List ℕ) where
@@ -47,7 +47,7 @@ module _ (s : List ℕ) where
       let both : Text.Bytes (p .0) e ≡ Text.Bytes (q .0) f = sym (p .1) ∙ q .1 in
       let starts : p .0 ≡ q .0 = cc in
       let ends : e ≡ f = cc in
-      sym (p .2) ∙ ap (λ (k : ℕ). part s k e) starts ∙ ap (λ (k : ℕ). part s (q .0) k) ends ∙ q .2
+      sym (p .2) ∙ ap (λ (k : ℕ). slice s k e) starts ∙ ap (λ (k : ℕ). slice s (q .0) k) ends ∙ q .2
 
   -- ---- values
   mutual

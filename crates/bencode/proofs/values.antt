@@ -2,3 +2,4 @@ pub mod Encodings
 pub mod ScalarReads
 pub mod Sound
 pub mod Complete
+pub mod FirstBytes

@@ -3,4 +3,3 @@ pub mod Ends
 pub mod WalkLaws
 pub mod KeyOrder
 pub mod KeyLaws
-pub mod FirstBytes

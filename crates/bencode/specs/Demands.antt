@@ -14,7 +14,7 @@ use Rattle.bencode.specs.declared.integers.Number.{Number}
 use Rattle.bencode.specs.declared.item.Item.{Item}
 use Rattle.bencode.specs.declared.profile.Profile.{Profile}
 use Rattle.bencode.specs.declared.strings.Text.{Text}
-use Rattle.octets.specs.Bytes.{byteAt, part, less, Begins}
+use Rattle.octets.specs.Bytes.{byteAt, slice, less, Begins}
 use Rattle.bencode.specs.Letters.{letterE}
 use Rattle.bencode.specs.Depth.{largestDepth}
 use Rattle.bencode.specs.Strings.{stringAt}
@@ -60,7 +60,7 @@ ReadsInteger = (p : Profile) (levels : ℕ) (v : Value) (s : List ℕ) (at end :
 
 -- what reading a string answers there: its text, which is the end of its encoding, or a fault where it is none
 abbrev pub StringRead : List ℕ → Value → ℕ → Text → Type 0
-StringRead s (string text) end t = (t ≡ Text.Bytes (end - length text) end) × (part s (end - length text) end ≡ text)
+StringRead s (string text) end t = (t ≡ Text.Bytes (end - length text) end) × (slice s (end - length text) end ≡ text)
 StringRead s (integer z) end t = (f : Fault) × (t ≡ Text.Fault f)
 StringRead s (list vs) end t = (f : Fault) × (t ≡ Text.Fault f)
 StringRead s (dictionary es) end t = (f : Fault) × (t ≡ Text.Fault f)
@@ -104,7 +104,7 @@ FindsEntry = (p : Profile) (levels : ℕ) (es : Entries) (keys : List (List ℕ)
 -- which is the end of its encoding; where a list's items or a dictionary's entries stand, each well formed
 abbrev pub Shows : Profile → List ℕ → ℕ → Value → Field → Type 0
 Shows p s at (integer z) f = f ≡ Field.Integer z (at + length (encode (integer z)))
-Shows p s at (string text) f = (f ≡ Field.Text (at + length (encodeString text) - length text) (at + length (encodeString text))) × (part s (at + length (encodeString text) - length text) (at + length (encodeString text)) ≡ text)
+Shows p s at (string text) f = (f ≡ Field.Text (at + length (encodeString text) - length text) (at + length (encodeString text))) × (slice s (at + length (encodeString text) - length text) (at + length (encodeString text)) ≡ text)
 Shows p s at (list vs) f = (f ≡ Field.List (at + 1)) × (levels : ℕ) × All (WellFormed p levels) vs × Begins s (at + 1) (encodeAll vs ++ (letterE ∷ [])) (at + length (encode (list vs)))
 Shows p s at (dictionary es) f = (f ≡ Field.Dictionary (at + 1)) × (levels : ℕ) × AllEntries p (WellFormed p levels) [] es × Begins s (at + 1) (encodeEntries es ++ (letterE ∷ [])) (at + length (encode (dictionary es)))
 

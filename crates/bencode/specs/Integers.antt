@@ -1,5 +1,5 @@
--- Pinned by `ReadsInteger`; the range and the offset of a fault are to be believed. Integers: `i`, an optional `-`, decimal
--- digits, `e`; no leading zero, no `-0` (document 01, 'The frame').
+-- Which integers are read is pinned by `ReadsInteger` and `AcceptsExactly`; the range, `within`, and code and offset of a fault
+-- are to be believed. Integers: `i`, an optional `-`, decimal digits, `e`; no leading zero, no `-0` (document 01, 'The frame').
 -- Assumes nothing.
 use Prim.Native.Nat.{ℕ, _+_, _^_, _<_}
 use mathlib.Core.Bool.{Bool, true, false, cond, _&&_}

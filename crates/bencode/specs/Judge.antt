@@ -1,5 +1,5 @@
--- To be believed, for requests 06, 10 and 14. How a payload of at most so many bytes is judged: by its length, then by the walk,
--- then by what its value means.
+-- To be believed, for requests 06, 10 and 14; `OneAnswer` and `JudgesMeaning` say that it answers every payload, once. How a
+-- payload of at most so many bytes is judged: by its length, then by the walk, then by what its value means.
 -- Assumes nothing.
 use Prim.Native.Nat.{ℕ, _≤_, _<_}
 use mathlib.Core.Path.{_≡_}
@@ -15,7 +15,8 @@ use Rattle.bencode.specs.Value.{Value, encode, WellFormed}
 abbrev pub Means : Profile → List ℕ → Value → Type 0
 Means p s v = WellFormed p largestDepth v × (s ≡ encode v)
 
--- over the profile, the longest payload and the code of a longer one, what a refusal by code and offset is, and what a value means
+-- over the profile, the longest payload and the code of a longer one, what a refusal by code and offset is, and what a value
+-- means
 module _ {A : Type 0} (p : Profile) (longest tooLong : ℕ) (refused : ℕ → ℕ → A) (meaning : Value → A) where
   -- the answer after the walk: its fault, or what the value means
   abbrev pub Walked : List ℕ → Walk → A → Type 0

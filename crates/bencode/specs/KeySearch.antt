@@ -1,5 +1,5 @@
--- Pinned by the promise of `check_key`; nothing public cites it. How the key rule is checked from the payload, with no list of
--- the earlier keys.
+-- Pinned by the promise of the walk's `dictionary`, which is over the list of earlier keys; nothing public cites it. How the key
+-- rule is checked from the payload, with no such list.
 -- Assumes nothing.
 use Prim.Native.Nat.{ℕ}
 use mathlib.Core.Bool.{Bool, true, false, cond}
@@ -10,7 +10,7 @@ use Rattle.bencode.specs.declared.key.Seen.{Seen}
 use Rattle.bencode.specs.declared.key.KeyCheck.{KeyCheck}
 use Rattle.bencode.specs.declared.strings.Text.{Text}
 use Rattle.bencode.specs.declared.profile.Profile.{Profile}
-use Rattle.octets.specs.Bytes.{part, less}
+use Rattle.octets.specs.Bytes.{slice, less}
 use Rattle.bencode.specs.Strings.{stringAt}
 use Rattle.bencode.specs.Entry.{entryAt}
 
@@ -25,7 +25,7 @@ usedAt s first key end = foundBefore end (entryAt s key first)
 
 -- is a key above the one at the offset of the greatest
 abbrev pub aboveText : List ℕ → List ℕ → Text → Bool
-aboveText s key (Text.Bytes start end) = less (part s start end) key
+aboveText s key (Text.Bytes start end) = less (slice s start end) key
 aboveText s key (Text.Fault f) = false
 
 -- is a key above those of the entries before an offset, of which the greatest is kept

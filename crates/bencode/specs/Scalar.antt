@@ -1,4 +1,5 @@
--- Pinned by `AcceptsExactly`. Values that hold no other: strings and integers.
+-- What is accepted is pinned by `AcceptsExactly`; codes and offsets are to be believed. Values that hold no other: strings and
+-- integers.
 -- Assumes nothing.
 use Prim.Native.Nat.{ℕ}
 use mathlib.Core.Bool.{cond}

@@ -1,5 +1,5 @@
--- Pinned by `SkipsValue`. Where a value ends that has been walked before: keys and depth are not checked again, nesting is only
--- counted.
+-- Pinned by `SkipsValue`, `SkipsItems` and `SkipsEntries`. Where a value, or the rest of a list or dictionary, ends that has
+-- been walked before: keys and depth are not checked again, nesting is only counted.
 -- Assumes nothing.
 use Prim.Native.Nat.{ℕ, zero, suc, _+_, _-_}
 use mathlib.Core.Bool.{Bool, cond, _||_}
@@ -8,16 +8,16 @@ use lib.Dec.{eqb}
 use Rattle.bencode.specs.declared.fault.Walk.{Walk}
 use Rattle.octets.specs.Bytes.{byteAt}
 use Rattle.bencode.specs.Letters.{letterD, letterE, letterL}
-use Rattle.bencode.specs.Loop.{Step, next, done, repeatFrom}
+use Rattle.bencode.specs.Loop.{LoopStep, next, done, repeatFrom}
 use Rattle.bencode.specs.Scalar.{scalarAt}
 
 -- goes on at an offset and a depth, or ends there where nothing is open
-abbrev pub landed : ℕ → ℕ → Step ℕ ℕ
+abbrev pub landed : ℕ → ℕ → LoopStep ℕ ℕ
 landed at zero = done at
 landed at (suc depth) = next at (suc depth)
 
 -- after a string or an integer at an offset; where there is none, skipping ends at that offset
-abbrev pub pastScalar : ℕ → ℕ → Walk → Step ℕ ℕ
+abbrev pub pastScalar : ℕ → ℕ → Walk → LoopStep ℕ ℕ
 pastScalar at depth (Walk.End end) = landed end depth
 pastScalar at depth (Walk.Fault f) = done at
 
@@ -26,7 +26,7 @@ abbrev pub opens : ℕ → Bool
 opens b = eqb b letterL || eqb b letterD
 
 -- a step of skipping: one opening byte, one `e`, one string or one integer
-abbrev pub skipStep : List ℕ → ℕ → ℕ → Step ℕ ℕ
+abbrev pub skipStep : List ℕ → ℕ → ℕ → LoopStep ℕ ℕ
 skipStep s at depth =
     cond (opens (byteAt s at)) (next (at + 1) (depth + 1))
     (cond (eqb (byteAt s at) letterE) (landed (at + 1) (depth - 1))

@@ -1,5 +1,5 @@
--- Pinned by `ReadsString`; the offset of a fault is to be believed. Strings: a decimal length, a colon and that many bytes
--- (document 01, 'The frame').
+-- Which strings are read is pinned by `ReadsString` and `AcceptsExactly`; code and offset of a fault are to be believed.
+-- Strings: a decimal length, a colon and that many bytes (document 01, 'The frame').
 -- Assumes nothing.
 use Prim.Native.Nat.{ℕ, _+_, _-_}
 use mathlib.Core.Bool.{cond}

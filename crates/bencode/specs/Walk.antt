@@ -9,9 +9,9 @@ use lib.ListN.{length}
 use Rattle.bencode.specs.declared.strings.Text.{Text}
 use Rattle.bencode.specs.declared.fault.Walk.{Walk}
 use Rattle.bencode.specs.declared.profile.Profile.{Profile}
-use Rattle.octets.specs.Bytes.{byteAt, part}
+use Rattle.octets.specs.Bytes.{byteAt, slice}
 use Rattle.bencode.specs.Letters.{letterD, letterE, letterL}
-use Rattle.bencode.specs.Loop.{Step, next, done, repeatFrom, itemStep}
+use Rattle.bencode.specs.Loop.{LoopStep, next, done, repeatFrom, itemStep}
 use Rattle.bencode.specs.Fault.{fault, codeOf, offsetOf}
 use Rattle.bencode.specs.Strings.{stringAt}
 use Rattle.bencode.specs.Scalar.{scalarAt}
@@ -19,12 +19,12 @@ use Rattle.bencode.specs.Depth.{largestDepth}
 use Rattle.bencode.specs.Key.{keyFault}
 
 -- goes on after a value, or ends with its fault
-abbrev pub onward : {X : Type 0} → Walk → X → Step X Walk
+abbrev pub onward : {X : Type 0} → Walk → X → LoopStep X Walk
 onward (Walk.End end) x = next end x
 onward (Walk.Fault f) x = done (Walk.Fault f)
 
 -- a step of a list: its end, or one value
-abbrev pub listStep : (ℕ → Walk) → List ℕ → ℕ → Unit {0} → Step (Unit {0}) Walk
+abbrev pub listStep : (ℕ → Walk) → List ℕ → ℕ → Unit {0} → LoopStep (Unit {0}) Walk
 listStep value s = itemStep s (λ end x. Walk.End end) (λ at x. onward (value at) x)
 
 -- the offset after the list whose values start at an offset, where `value` walks one
@@ -32,16 +32,16 @@ unfoldable pub listFrom : (ℕ → Walk) → List ℕ → ℕ → Walk
 listFrom value s at = repeatFrom s (listStep value s) (Walk.Fault (fault 5 at)) at tt
 
 -- the value of a key whose fault has a code, 0 for none: a key is compared before its value is walked
-abbrev pub keyed : ℕ → ℕ → (ℕ → Walk) → ℕ → List (List ℕ) → Step (List (List ℕ)) Walk
+abbrev pub keyed : ℕ → ℕ → (ℕ → Walk) → ℕ → List (List ℕ) → LoopStep (List (List ℕ)) Walk
 keyed code at value end keys = cond (eqb code 0) (onward (value end) keys) (done (Walk.Fault (fault code at)))
 
 -- one entry of a dictionary, whose key is a string, after the earlier keys
-abbrev pub entryStep : Profile → (ℕ → Walk) → List ℕ → ℕ → List (List ℕ) → Text → Step (List (List ℕ)) Walk
-entryStep p value s at keys (Text.Bytes start end) = keyed (keyFault p keys (part s start end)) at value end (part s start end ∷ keys)
+abbrev pub entryStep : Profile → (ℕ → Walk) → List ℕ → ℕ → List (List ℕ) → Text → LoopStep (List (List ℕ)) Walk
+entryStep p value s at keys (Text.Bytes start end) = keyed (keyFault p keys (slice s start end)) at value end (slice s start end ∷ keys)
 entryStep p value s at keys (Text.Fault f) = done (Walk.Fault f)
 
 -- a step of a dictionary: its end, or one entry
-abbrev pub dictionaryStep : Profile → (ℕ → Walk) → List ℕ → ℕ → List (List ℕ) → Step (List (List ℕ)) Walk
+abbrev pub dictionaryStep : Profile → (ℕ → Walk) → List ℕ → ℕ → List (List ℕ) → LoopStep (List (List ℕ)) Walk
 dictionaryStep p value s at keys = cond (eqb (byteAt s at) letterE) (done (Walk.End (at + 1))) (entryStep p value s at keys (stringAt s at))
 
 -- the offset after the dictionary whose entries go on at an offset, after the earlier keys

@@ -2,7 +2,7 @@
 ghost use mathlib.Core.Path.{_≡_};
 ghost use Prim.Native.Nat.{_≤_};
 ghost use lib.ListN.{length};
-ghost use Rattle.octets.specs.Bytes.{part};
+ghost use Rattle.octets.specs.Bytes.{slice};
 ghost use Rattle.bencode.specs.KeySearch.{usedAt, aboveAt, keyAt};
 use super::entry::Entry;
 use super::entry::find;
@@ -28,7 +28,7 @@ pub enum KeyCheck {
 // finds the key itself at the latest, and an equal one before it.
 fn key_used(s: &[u8], first: usize, start: usize, end: usize) -> bool
     requires { ⌜ (start ≤ end) × (end ≤ length (now s)) ⌝ }
-    ensures { λ r. ⌜ r ≡ usedAt (now (s .entry)) first (part (now (s .entry)) start end) end ⌝ }
+    ensures { λ r. ⌜ r ≡ usedAt (now (s .entry)) first (slice (now (s .entry)) start end) end ⌝ }
 {
     match find(s, first, &s[start..end]) {
         Entry::At(at) => at < end,
@@ -39,7 +39,7 @@ fn key_used(s: &[u8], first: usize, start: usize, end: usize) -> bool
 // Is the key from start up to end above the greatest of the entries before at.
 fn key_above(s: &[u8], seen: Seen, at: usize, start: usize, end: usize) -> bool
     requires { ⌜ (start ≤ end) × (end ≤ length (now s)) ⌝ }
-    ensures { λ r. ⌜ r ≡ aboveAt (now (s .entry)) seen at (part (now (s .entry)) start end) ⌝ }
+    ensures { λ r. ⌜ r ≡ aboveAt (now (s .entry)) seen at (slice (now (s .entry)) start end) ⌝ }
 {
     let first = seen.first;
     let greatest = seen.greatest;
@@ -65,7 +65,7 @@ pub fn check_key(
     profile: Profile,
 ) -> KeyCheck
     requires { ⌜ (start ≤ end) × (end ≤ length (now s)) ⌝ }
-    ensures { λ r. ⌜ r ≡ keyAt profile (now (s .entry)) seen at (part (now (s .entry)) start end) end ⌝ }
+    ensures { λ r. ⌜ r ≡ keyAt profile (now (s .entry)) seen at (slice (now (s .entry)) start end) end ⌝ }
 {
     let first = seen.first;
     if key_above(s, seen, at, start, end) {

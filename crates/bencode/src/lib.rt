@@ -1,7 +1,5 @@
-// Bencoded payloads: where a value ends or which byte is at fault, how to look into a payload that is sound, and how to
-// write integers and strings. Nothing here knows of frames.
-// Every function here takes any bytes and any offset, of any length: what a payload that was not walked says is still
-// defined, and what has no room is not stored.
+// Bencoded payloads: where a value ends or which byte is at fault, looking into a payload, and writing integers and strings.
+// Every function takes any bytes and any offset, of any length; a payload that was not walked has its answer too.
 mod depth;
 mod entry;
 mod fault;

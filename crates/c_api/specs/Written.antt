@@ -12,6 +12,6 @@ abbrev pub writtenNumbers : Written → WriteAnswer
 writtenNumbers w = record { code = writtenCode w; count = writtenCount w }
 
 -- its answer, and the whole buffer
-pub record Answered (answer : Written) (payload before : List ℕ) (r : WriteAnswer) (after : List ℕ) : Type 0 where
+pub record WrittenAs (answer : Written) (payload before : List ℕ) (r : WriteAnswer) (after : List ℕ) : Type 0 where
   pub answered : r ≡ writtenNumbers answer
   pub buffer : after ≡ bufferAfter answer (frameOf payload) before

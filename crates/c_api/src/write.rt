@@ -2,7 +2,7 @@
 ghost use mathlib.Core.Path.{_≡_};
 ghost use lib.ListN.{length};
 ghost use Rattle.ipc.specs.Writer.{Leaves};
-ghost use Rattle.c_api.specs.Written.{Answered};
+ghost use Rattle.c_api.specs.Written.{WrittenAs};
 ghost use Rattle.c_api.specs.Offered.{offered, unknownCode, offeredAnswer, offeredPayload};
 use super::offered::Offered;
 use super::offered::offered_of;
@@ -42,7 +42,7 @@ pub extern "C" fn bogsilver_write(
     tag: u32,
     out: &mut [u8],
 ) -> WriteAnswer
-    ensures { λ r. ⌜ Answered (offeredAnswer key (offered kind integer) (now (s .entry)) tag (length (now (out .entry)))) (offeredPayload key (offered kind integer) (now (s .entry)) tag) (now (out .entry)) r (now (out .exit)) ⌝ }
+    ensures { λ r. ⌜ WrittenAs (offeredAnswer key (offered kind integer) (now (s .entry)) tag (length (now (out .entry)))) (offeredPayload key (offered kind integer) (now (s .entry)) tag) (now (out .entry)) r (now (out .exit)) ⌝ }
 {
     if 255 < key {
         return write_answer_of(Written::Refused(Written::KEY));

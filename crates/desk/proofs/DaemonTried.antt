@@ -24,8 +24,8 @@ use Rattle.ipc.specs.Versions.{rangeOf}
 use Rattle.ipc.specs.Handshake.{rangeAt, dictionaryVersions, handshakeReading}
 use Rattle.ipc.specs.Reader.{payloadReading, lengthReading, frameReading, readFrame}
 use Rattle.desk.specs.Machine.{isAmong, obey, idsFrom, idsIn, limitCommand, idsCommand, contentCommand, commandIn, obeying, takes, handed}
-use Rattle.desk.specs.Tries.{runningOf, seen, before, tries, DaemonTried}
+use Rattle.desk.specs.Tries.{runningOf, shown, before, tries, DaemonTried}
 
 pub daemon-tried : DaemonTried
-unfolding tries before seen runningOf handed takes obeying commandIn contentCommand idsCommand limitCommand idsIn idsFrom obey isAmong frameReading skipFrom itemAt readFrame lengthReading payloadReading ascii hexValue headerIn readHeader sized hexDigit tagOf torrentIdOf keys numberFrom keyNumber classOf entryAt fieldAt fieldOf idEnd torrentEnd itemEnd itemsEnd listPart formatted tailAt messageReading rangeOf rangeAt dictionaryVersions handshakeReading payloadAt valueAt scalarAt integerAt integerFrom numeralAt digits stringAt listFrom dictionaryFrom repeat keyFault isUsed isAbove same less
+unfolding tries before shown runningOf handed takes obeying commandIn contentCommand idsCommand limitCommand idsIn idsFrom obey isAmong frameReading skipFrom itemAt readFrame lengthReading payloadReading ascii hexValue headerIn readHeader sized hexDigit tagOf torrentIdOf keys numberFrom keyNumber classOf entryAt fieldAt fieldOf idEnd torrentEnd itemEnd itemsEnd listPart formatted tailAt messageReading rangeOf rangeAt dictionaryVersions handshakeReading payloadAt valueAt scalarAt integerAt integerFrom numeralAt digits stringAt listFrom dictionaryFrom repeat keyFault isUsed isAbove same less
 daemon-tried = refl

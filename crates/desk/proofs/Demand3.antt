@@ -1,4 +1,5 @@
--- Demand 3: each call is a step (`Steps`), the daemon takes the frames that the call wrote (`ReadsCommands`), and the override that
+-- Demand 3: each call is a step (`Steps`), the daemon takes the frames that the call wrote (`ReadsCommands`), and the
+-- override that
 -- stands is the record's.
 -- Assumes nothing.
 use Prim.Native.Nat.{ℕ, _≤_}
@@ -23,7 +24,7 @@ use Rattle.desk.specs.Plan.{Outcome, deferred, deskAfter, plan}
 use Rattle.desk.specs.Calls.{framed, outcome, returned, bufferAfter}
 use Rattle.desk.specs.Machine.{Machine, isAmong, handed, aloneAfter}
 use Rattle.desk.specs.Demands.{desk, standingAfter, Turn, World, after, turn, turns, atOpening, afterOpening, overridden, Demand3}
-use Rattle.desk.proofs.numbers.Cases.{cond-cases}
+use Rattle.desk.proofs.general.Cases.{cond-cases}
 use Rattle.desk.proofs.watching.Places.{take-places}
 use Rattle.desk.proofs.openings.AcceptedOpening.{open-accepted}
 use Rattle.desk.proofs.machines.ReadsCommands.{frames-handed}

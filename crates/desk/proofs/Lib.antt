@@ -1,3 +1,4 @@
+pub mod general
 pub mod numbers
 pub mod watching
 pub mod records

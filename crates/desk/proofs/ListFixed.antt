@@ -16,7 +16,7 @@ use Rattle.desk.specs.declared.call.Call.{Call}
 use Rattle.desk.specs.Plan.{Outcome, deferred, deskAfter, plan}
 use Rattle.desk.specs.Calls.{framed, outcome}
 use Rattle.desk.specs.Demands.{ListFixed}
-use Rattle.desk.proofs.numbers.Cases.{by-cases, cond-cases}
+use Rattle.desk.proofs.general.Cases.{by-cases, cond-cases}
 use Rattle.desk.proofs.watching.WatchLists.{entry}
 use Rattle.desk.proofs.acting.RefusalLaws.{Accepted}
 use Rattle.desk.proofs.acting.CallLaws.{outcome-cases}

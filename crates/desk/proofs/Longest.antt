@@ -24,7 +24,7 @@ use Rattle.desk.specs.declared.call.Call.{Call}
 use Rattle.desk.specs.Plan.{Outcome, deferred, deskAfter, raiseCommands, clearCommands, commandsOf, plan}
 use Rattle.desk.specs.Calls.{accepted, framed, outcome}
 use Rattle.desk.specs.Demands.{NoLonger, LongestReached}
-use Rattle.desk.proofs.numbers.Cases.{cond-cases}
+use Rattle.desk.proofs.general.Cases.{cond-cases}
 use Rattle.desk.proofs.acting.RefusalLaws.{Accepted, fault-none}
 use Rattle.desk.proofs.acting.CallLaws.{outcome-sends, delivered-whole, outcome-cases}
 use Rattle.desk.proofs.acting.PlanLaws.{commands-length}
@@ -41,7 +41,8 @@ no-longer c room d =
     (λ ok. cond-cases Short (deferred c d) (λ _. omega arith) (λ _. commands-length c d ok)) in
     omega (arith, k .holds, ap (λ (o : Outcome (List ℕ)). length (o .sent)) (k .is))
 
--- ---- a run whose clear is the longest: an opening with 32 of the largest IDs, of both marks, and both limits the largest, then a raise
+-- ---- a run whose clear is the longest: an opening with 32 of the largest IDs, of both marks, and both limits the largest,
+-- then a raise
 unfoldable countdown : ℕ → ℕ → List Watch
 countdown zero x = []
 countdown (suc n) x = record { id = x + n; running = eqb n 0 } ∷ countdown n x

@@ -22,7 +22,7 @@ use Rattle.desk.specs.Watch.{isId, allIds}
 use Rattle.desk.specs.Command.{values, idList}
 use Rattle.desk.specs.Machine.{idsFrom, idsIn}
 use Rattle.desk.specs.Demands.{IdsRead}
-use Rattle.desk.proofs.numbers.Cases.{both}
+use Rattle.desk.proofs.general.Cases.{both}
 
 id-range : (x : ℕ) → isId x ≡ true → InRange (pos x)
 unfolding isId

@@ -1,4 +1,5 @@
--- Each number is given when its row holds, refusals keep the record and the lent buffer, a refused opening closes the desk, and only a raise and a clear move the override.
+-- Each number is given when its row holds, refusals keep the record and the lent buffer, a refused opening closes the desk,
+-- and only a raise and a clear move the override.
 -- Assumes nothing.
 use Prim.Native.Nat.{ℕ, _≤_, _<_}
 use native.Mathlib.Omega.{arith}
@@ -17,7 +18,7 @@ use Rattle.desk.specs.declared.call.Call.{Call}
 use Rattle.desk.specs.Plan.{Outcome, deskAfter, plan}
 use Rattle.desk.specs.Calls.{refused, decided, framed, delivered, outcome, returned, bufferAfter}
 use Rattle.desk.specs.Demands.{overrideAfter, NumbersGiven, OpeningGiven, RefusalKeeps, RefusalCloses, OverrideMoves}
-use Rattle.desk.proofs.numbers.Cases.{by-cases, cond-cases}
+use Rattle.desk.proofs.general.Cases.{by-cases, cond-cases}
 use Rattle.desk.proofs.openings.AcceptedOpening.{opening-code}
 use Rattle.desk.proofs.acting.CallLaws.{Comes, outcome-refused, outcome-cases}
 

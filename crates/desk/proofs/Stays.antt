@@ -18,7 +18,7 @@ use Rattle.desk.specs.declared.call.Call.{Call}
 use Rattle.desk.specs.Plan.{Outcome, deferred, deskAfter, plan}
 use Rattle.desk.specs.Calls.{framed, outcome, returned}
 use Rattle.desk.specs.Demands.{desk, Turn, World, after, turn, turns, afterOpening, NeverBadRecord}
-use Rattle.desk.proofs.numbers.Cases.{cond-cases}
+use Rattle.desk.proofs.general.Cases.{cond-cases}
 use Rattle.desk.proofs.watching.WatchLists.{entry, has-set, place-below, idsOk, ids-set}
 use Rattle.desk.proofs.records.SoundLaws.{Sound, sound-parts, parts-sound}
 use Rattle.desk.proofs.openings.AcceptedOpening.{opened-sound}

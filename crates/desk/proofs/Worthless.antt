@@ -39,7 +39,7 @@ use Rattle.desk.specs.Refusal.{callFault}
 use Rattle.desk.specs.Plan.{deskAfter, raiseCommands, clearCommands, commandsOf, plan}
 use Rattle.desk.specs.Calls.{decided, framed, delivered, outcome, returned, bufferAfter}
 use Rattle.desk.specs.Demands.{Turn, after, turn, turns, atOpening, afterOpening, standingAfter, overridden}
-use Rattle.desk.specs.Worthless.{AlwaysRefusesFalls, NeverOpensFalls, neverWrites, NeverWritesFalls, heldWrites, HeldWritesFalls, secondRaise, SecondRaiseFalls, restoresOnce, RestoresOnceFalls, restoresCopy, RestoresCopyFalls}
+use Rattle.desk.specs.Worthless.{AlwaysRefusesFalls, NeverOpensFalls, neverWrites, NeverWritesFalls, deferredWrites, DeferredWritesFalls, secondRaise, SecondRaiseFalls, restoresOnce, RestoresOnceFalls, restoresCopy, RestoresCopyFalls}
 
 -- ---- the runs: two watched IDs, of which 3 runs, limits of 1 and 2, and no other ID
 abbrev list : List Watch
@@ -67,9 +67,9 @@ never-writes-falls demand =
     let z : _≡_ {A = ℕ} 1 5 = ap downOf (demand list (pos 1) (pos 2) (λ x. false) (lent (Call.Down (pos 5)) ∷ []) list-opened .0 refl) in
     omega arith
 
-pub held-writes-falls : HeldWritesFalls
-unfolding downOf heldWrites turns turn after afterOpening atOpening standingAfter overridden aloneAfter request returned bufferAfter outcome decided framed delivered plan deskAfter commandsOf raiseCommands clearCommands callFault sound limitsSound listSound withDown withOverride opening openCode openedWith places listFault unused has place marked filtered isId isLimit framesOf commandFrame listing messageFrame frameOf payloadOf flatten hexHeader hexIn keyText encodeGiven encodeTag idList values encode decimal decimalBefore handed takes obeying commandIn contentCommand idsCommand limitCommand idsIn idsFrom obey isAmong frameReading skipFrom itemAt readFrame lengthReading payloadReading ascii hexValue headerIn readHeader sized hexDigit tagOf torrentIdOf keys numberFrom keyNumber classOf idEnd itemEnd itemsEnd listPart formatted tailAt messageReading payloadAt valueAt scalarAt integerAt integerFrom numeralAt digits stringAt listFrom repeat same
-held-writes-falls demand =
+pub deferred-writes-falls : DeferredWritesFalls
+unfolding downOf deferredWrites turns turn after afterOpening atOpening standingAfter overridden aloneAfter request returned bufferAfter outcome decided framed delivered plan deskAfter commandsOf raiseCommands clearCommands callFault sound limitsSound listSound withDown withOverride opening openCode openedWith places listFault unused has place marked filtered isId isLimit framesOf commandFrame listing messageFrame frameOf payloadOf flatten hexHeader hexIn keyText encodeGiven encodeTag idList values encode decimal decimalBefore handed takes obeying commandIn contentCommand idsCommand limitCommand idsIn idsFrom obey isAmong frameReading skipFrom itemAt readFrame lengthReading payloadReading ascii hexValue headerIn readHeader sized hexDigit tagOf torrentIdOf keys numberFrom keyNumber classOf idEnd itemEnd itemsEnd listPart formatted tailAt messageReading payloadAt valueAt scalarAt integerAt integerFrom numeralAt digits stringAt listFrom repeat same
+deferred-writes-falls demand =
     let z : _≡_ {A = ℕ} 0 1 = ap downOf (demand list (pos 1) (pos 2) (λ x. false) (lent (Call.Raise 3) ∷ lent (Call.Down (pos 5)) ∷ []) list-opened .1 3 refl) in
     omega arith
 

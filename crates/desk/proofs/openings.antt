@@ -1,3 +1,2 @@
-pub mod WalkedCall
 pub mod OpeningLaws
 pub mod AcceptedOpening

@@ -8,6 +8,7 @@ use mathlib.Core.Bool.{cond}
 use mathlib.Core.List.{List, [], _++_}
 use lib.Dec.{leb, eqb}
 use lib.ListN.{length, drop}
+use Rattle.octets.specs.Put.{atFront}
 use Rattle.desk.specs.declared.call.Call.{Call}
 use Rattle.desk.specs.declared.record.Desk.{Desk}
 use Rattle.desk.specs.declared.done.Done.{Done}
@@ -45,7 +46,7 @@ returned o = record { code = o .code; count = length (o .sent); desk = o .desk }
 
 -- the buffer after it
 unfoldable pub bufferAfter : Outcome (List ℕ) → List ℕ → List ℕ
-bufferAfter o before = o .sent ++ drop (length (o .sent)) before
+bufferAfter o before = atFront (o .sent) before
 
 -- both: the promise of a call
 pub record Returned (o : Outcome (List ℕ)) (before : List ℕ) (r : Done) (after : List ℕ) : Type 0 where

@@ -1,4 +1,5 @@
--- To be believed. The two machines of demand 3 (document 01, 'The desk'): each is two limits and a set of running IDs.
+-- To be believed; `IdsRead` and `DaemonTried` show how bytes are read. The two machines of demand 3 (document 01, 'The desk'):
+-- each is two limits and a set of running IDs.
 -- Assumes nothing.
 use Prim.Native.Nat.{ℕ, zero, suc, _+_}
 use mathlib.Core.Bool.{Bool, false, cond, not, _&&_, _||_}
@@ -8,7 +9,7 @@ use lib.Dec.{leb, eqb}
 use lib.IntN.{ℤ, natAbs}
 use lib.ListN.{length, drop}
 use Rattle.bencode.specs.declared.integers.Number.{Number}
-use Rattle.octets.specs.Bytes.{part as bytesFrom}
+use Rattle.octets.specs.Bytes.{slice}
 use Rattle.bencode.specs.Integers.{integerAt}
 use Rattle.ipc.specs.Answer.{Answer, Content, nothing, integer, text, part, versions}
 use Rattle.ipc.specs.Reader.{readFrame}
@@ -55,7 +56,7 @@ unfoldable pub contentCommand : List ℕ → ℕ → Content → Option Command
 contentCommand s key nothing = none
 contentCommand s key (integer n) = limitCommand key n
 contentCommand s key (text at n) = none
-contentCommand s key (part at n) = idsCommand key (idsIn (bytesFrom s at (at + n)))
+contentCommand s key (part at n) = idsCommand key (idsIn (slice s at (at + n)))
 contentCommand s key (versions low high) = none
 
 -- the command of the frame that some bytes begin with, where the reader accepts it
@@ -67,7 +68,8 @@ unfoldable pub obeying : Option Command → Machine → (Machine → Option Mach
 obeying none m next = none
 obeying (some c) m next = next (obey c m)
 
--- the daemon after bytes of fewer than so many frames: none where they are not whole accepted frames of those keys and nothing else
+-- the daemon after bytes of fewer than so many frames: none where they are not whole accepted frames of those keys and
+-- nothing else
 unfoldable pub takes : ℕ → List ℕ → Machine → Option Machine
 takes zero s m = none
 takes (suc frames) s m =

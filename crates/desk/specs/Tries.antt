@@ -13,7 +13,7 @@ use Rattle.octets.specs.Ascii.{ascii}
 use Rattle.desk.specs.Machine.{Machine, handed}
 
 -- what is seen of a machine: both limits, and which of the IDs 0 to 9 run
-pub record Seen : Type 0 where
+pub record Shown : Type 0 where
   pub down : ℤ
   pub up : ℤ
   pub running : List ℕ
@@ -22,9 +22,9 @@ unfoldable pub runningOf : Machine → List ℕ → List ℕ
 runningOf m [] = []
 runningOf m (x ∷ xs) = cond (m .runs x) (x ∷ runningOf m xs) (runningOf m xs)
 
-unfoldable pub seen : Option Machine → Option Seen
-seen none = none
-seen (some m) = some (record { down = m .down; up = m .up; running = runningOf m (0 ∷ 1 ∷ 2 ∷ 3 ∷ 4 ∷ 5 ∷ 6 ∷ 7 ∷ 8 ∷ 9 ∷ []) })
+unfoldable pub shown : Option Machine → Option Shown
+shown none = none
+shown (some m) = some (record { down = m .down; up = m .up; running = runningOf m (0 ∷ 1 ∷ 2 ∷ 3 ∷ 4 ∷ 5 ∷ 6 ∷ 7 ∷ 8 ∷ 9 ∷ []) })
 
 -- the machine before the bytes: limits 1 and 2, and IDs 3 and 5 run
 unfoldable pub before : Machine
@@ -33,7 +33,7 @@ before = record { down = pos 1; up = pos 2; runs = λ x. eqb x 3 || eqb x 5 }
 -- bytes, and what is seen of the machine after them: none where they are not to be sent
 pub record Try : Type 0 where
   pub bytes : String
-  pub after : Option Seen
+  pub after : Option Shown
 
 abbrev taken : String → ℤ → ℤ → List ℕ → Try
 taken b down up running = record { bytes = b; after = some (record { down = down; up = up; running = running }) }
@@ -78,4 +78,4 @@ tries =
 
 -- the statement: the daemon makes of each what the table says
 abbrev pub DaemonTried : Type 0
-DaemonTried = map (λ t. seen (handed (ascii (t .bytes)) (some before))) tries ≡ map (λ t. t .after) tries
+DaemonTried = map (λ t. shown (handed (ascii (t .bytes)) (some before))) tries ≡ map (λ t. t .after) tries

@@ -40,21 +40,21 @@ abbrev pub NeverWritesFalls : Type 0
 NeverWritesFalls = Demand3For neverWrites → ⊥
 
 -- one whose deferred requests are written all the same
-unfoldable pub heldWrites : Build
-heldWrites = buildOf (λ c room d.
+unfoldable pub deferredWrites : Build
+deferredWrites = buildOf (λ c room d.
     let o = outcome c room d in
     cond (eqb (o .code) 1) (record { code = 1; desk = o .desk; sent = framesOf (commandsOf c d) }) o)
 
-abbrev pub HeldWritesFalls : Type 0
-HeldWritesFalls = Demand3For heldWrites → ⊥
+abbrev pub DeferredWritesFalls : Type 0
+DeferredWritesFalls = Demand3For deferredWrites → ⊥
 
 -- an outcome on another record than the one handed in; a refusal returns that one
-abbrev from : Desk → Outcome (List ℕ) → Outcome (List ℕ)
-from d o = cond (leb (o .code) 1) o (record { code = o .code; desk = d; sent = o .sent })
+abbrev keptIfRefused : Desk → Outcome (List ℕ) → Outcome (List ℕ)
+keptIfRefused d o = cond (leb (o .code) 1) o (record { code = o .code; desk = d; sent = o .sent })
 
 -- one in which a second raise moves the override
 unfoldable pub secondRaise : Build
-secondRaise = buildOf (λ c room d. from d (outcome c room (cond (raisesAgain c d) (withOverride 0 d) d)))
+secondRaise = buildOf (λ c room d. keptIfRefused d (outcome c room (cond (raisesAgain c d) (withOverride 0 d) d)))
 
 abbrev pub SecondRaiseFalls : Type 0
 SecondRaiseFalls = Demand3For secondRaise → ⊥
@@ -103,7 +103,7 @@ restoresCopy = record {
   Record = Beside Desk;
   opened = λ watch down up. let d = opening (length watch) watch down up .desk in record { now = d; kept = d };
   called = λ c before r.
-      let o = from (r .now) (outcome c (length before) (cond (isClear c && stands (r .now)) (r .kept) (r .now))) in
+      let o = keptIfRefused (r .now) (outcome c (length before) (cond (isClear c && stands (r .now)) (r .kept) (r .now))) in
       answered o before (cond (isRaise c && eqb (o .code) 0) (o .desk) (r .kept));
 }
 

@@ -1,7 +1,6 @@
-// The override desk of document 01: it keeps what is desired of the daemon's limits and watched transfers, gives one transfer
-// the whole link while an override stands, and restores what is desired when it is cleared.
-// Every function here takes any record and any buffer: what is bad is refused by document 01's numbers, and a refusal changes
-// nothing. The record goes in and comes back by value.
+// The override desk of document 01: it keeps what is desired of the daemon, gives one transfer the whole link, and restores.
+// Every function takes any record and any buffer: what is bad is refused by document 01's numbers, and a refusal changes
+// nothing.
 mod call;
 mod calls;
 mod change;
@@ -21,8 +20,6 @@ pub use calls::perform;
 pub use done::Done;
 pub use done::LONGEST_FRAMES;
 pub use done::Opened;
-pub use limit::Limit;
-pub use limit::OptionalLimit;
 pub use opening::open;
 pub use opening::open_records;
 pub use record::Desk;

@@ -13,7 +13,7 @@ use lib.ListN.{length, take, drop, length-append, take-append-drop}
 use lib.Seq.{length-take-le, take-append-seam, drop-at}
 use Rattle.bencode.specs.declared.fault.Walk.{Walk}
 use Rattle.bencode.specs.declared.profile.Profile.{Profile}
-use Rattle.octets.specs.Bytes.{byteAt, part, Begins}
+use Rattle.octets.specs.Bytes.{byteAt, slice, Begins}
 use Rattle.bencode.specs.Depth.{largestDepth}
 use Rattle.bencode.specs.Walk.{payloadAt}
 use Rattle.bencode.specs.Value.{Value, integer, string, list, dictionary, encode, WellFormed}
@@ -28,7 +28,7 @@ use Rattle.ipc.specs.Reader.{payloadReading, frameReading, readFrame}
 use Rattle.ipc.specs.Meaning.{meaning}
 use Rattle.ipc.specs.Demands.{HexDigits, none, more, hexFrom, Framed, AnswersMeaning, AcceptsExactly, Headed, AnswerRow, framed, short-header, short-payload, no-digit, over-protocol, over-limit, payload-fault, AnswersByRow}
 use Rattle.ipc.proofs.headers.HeaderLaws.{in-some, in-none}
-use Rattle.ipc.proofs.frames.FrameLaws.{payload-fault as fault-payload, payload-dictionary, payload-list, payload-scalar, length-short, length-there, sized-fits, sized-over-limit, sized-over-protocol, frame-no-digit, frame-short, frame-sized}
+use Rattle.ipc.proofs.frames.ReaderLaws.{payload-fault as fault-payload, payload-dictionary, payload-list, payload-scalar, length-short, length-there, sized-fits, sized-over-limit, sized-over-protocol, frame-no-digit, frame-short, frame-sized}
 use Rattle.ipc.proofs.meaning.Messages.{message-means}
 use Rattle.bencode.specs.Key.{isFaultCode}
 use Rattle.octets.proofs.sequences.Order.{clash}
@@ -36,7 +36,8 @@ use Rattle.bencode.proofs.FaultCodes.{faults-coded}
 use Rattle.ipc.proofs.meaning.Handshakes.{handshake-means}
 
 -- ---- payloads
--- the answer to the encoding of a well-formed value is what it means. Over any number of levels: with 16 antt writes all of them out
+-- the answer to the encoding of a well-formed value is what it means. Over any number of levels: with 16 antt writes all of
+-- them out
 walked-means : (levels : ℕ) (v : Value) → WellFormed Profile.Loose levels v → payloadAt Profile.Loose (encode v) ≡ Walk.End (length (encode v)) → Begins (encode v) 0 (encode v) (length (encode v))
     → answerOf (payloadReading (encode v)) ≡ meaning (8 + length (encode v)) v
 walked-means levels (integer z) h e b =
@@ -130,7 +131,7 @@ module _ (s : List ℕ) where
       let size : length s ≡ 8 + (n + length after) = headed-size n (p ++ after) h ∙ omega (arith, length-append p after) in
       let m : (8 + n) - 8 ≡ n = omega arith in
       let rest : drop 8 s ≡ p ++ after = ap (drop 8) (h .is) ∙ drop-at (h .header) (p ++ after) 8 (h .eight) in
-      let payload : part s 8 (8 + n) ≡ p = ap (λ (k : ℕ). take k (drop 8 s)) m ∙ ap (take n) rest ∙ take-append-seam p after in
+      let payload : slice s 8 (8 + n) ≡ p = ap (λ (k : ℕ). take k (drop 8 s)) m ∙ ap (take n) rest ∙ take-append-seam p after in
       ap payloadReading (sym payload) ∙ length-there s n (omega arith) ∙ frame-sized s n (Sized.Length (record { 0 = n })) (headed-length n (p ++ after) h) (sized-fits n small)
 
   row-answered : (a : Answer) → AnswerRow s a → a ≡ answerOf (frameReading s)

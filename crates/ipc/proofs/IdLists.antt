@@ -18,7 +18,7 @@ use Rattle.bencode.specs.Letters.{letterL}
 use Rattle.bencode.specs.Depth.{largestDepth}
 use Rattle.bencode.specs.Fault.{fault}
 use Rattle.bencode.specs.Integers.{InRange, integerAt, within}
-use Rattle.bencode.specs.Loop.{Step, done, after, repeat, itemStep}
+use Rattle.bencode.specs.Loop.{LoopStep, done, afterStep, repeat, itemStep}
 use Rattle.bencode.specs.Scalar.{scalarAt}
 use Rattle.bencode.specs.Value.{Value, integer, string, list, dictionary, Values, no-value, value, encode, All, WellFormed}
 use Rattle.bencode.specs.Walk.{onward, listStep, listFrom, valueAt, payloadAt}
@@ -65,7 +65,7 @@ id-value levels p at end e = go (integerAt p at) refl e
 -- ---- a list of them is a value
 module _ (p : List ℕ) (item : ℕ → OptionalEnd) (value : ℕ → Walk) (each : (at end : ℕ) → item at ≡ OptionalEnd.End end → value at ≡ Walk.End end) (f : Fault) (end : ℕ) where
   -- a step over the items, as `itemsEnd` takes it
-  abbrev step : ℕ → Unit {0} → Step (Unit {0}) OptionalEnd
+  abbrev step : ℕ → Unit {0} → LoopStep (Unit {0}) OptionalEnd
   step = itemStep p (λ to x. OptionalEnd.End to) (λ to x. pastItem (item to) x)
 
   -- the same steps, where each item is a value up to its end
@@ -74,9 +74,9 @@ module _ (p : List ℕ) (item : ℕ → OptionalEnd) (value : ℕ → Walk) (eac
   steps-same zero at e = let z : _≡_ {A = ℕ} 0 1 = cc in absurd (omega arith)
   steps-same (suc n) at e = go (eqb (byteAt p at) 101) (item at) refl e (λ to q. steps-same n to q)
     where
-      go : (t : Bool) (i : OptionalEnd) → item at ≡ i → after (cond t (done (OptionalEnd.End (at + 1))) (pastItem i tt)) (λ to y. repeat step OptionalEnd.None n to y) ≡ OptionalEnd.End end
+      go : (t : Bool) (i : OptionalEnd) → item at ≡ i → afterStep (cond t (done (OptionalEnd.End (at + 1))) (pastItem i tt)) (λ to y. repeat step OptionalEnd.None n to y) ≡ OptionalEnd.End end
           → ((to : ℕ) → repeat step OptionalEnd.None n to tt ≡ OptionalEnd.End end → repeat (listStep value p) (Walk.Fault f) n to tt ≡ Walk.End end)
-          → after (cond t (done (Walk.End (at + 1))) (onward (value at) tt)) (λ to y. repeat (listStep value p) (Walk.Fault f) n to y) ≡ Walk.End end
+          → afterStep (cond t (done (Walk.End (at + 1))) (onward (value at) tt)) (λ to y. repeat (listStep value p) (Walk.Fault f) n to y) ≡ Walk.End end
       go true i q e rec = let k : at + 1 ≡ end = cc in ap (λ (n : ℕ). Walk.End n) k
       go false (OptionalEnd.End k) q e rec = rw (each at k q) (rec k e)
       go false OptionalEnd.None q e rec = let z : _≡_ {A = ℕ} 0 1 = cc in absurd (omega arith)

@@ -12,4 +12,5 @@ pub mod ReadsBack
 pub mod Worthless
 pub mod AgreesOnLargest
 pub mod RefusalKeeps
-pub mod NoKindRefused
+pub mod HeaderAnswered
+pub mod RefusalHasNoKind

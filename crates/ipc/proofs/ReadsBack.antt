@@ -11,7 +11,7 @@ use lib.Dec.{eqb, eqb→eq, leb}
 use lib.IntN.{ℤ, pos}
 use lib.ListN.{length, getD, replicate, List·getD-eq-default, drop}
 use Rattle.bencode.specs.declared.profile.Profile.{Profile}
-use Rattle.octets.specs.Bytes.{same, part as bytesFrom}
+use Rattle.octets.specs.Bytes.{same, slice}
 use Rattle.bencode.specs.Letters.{letterE}
 use Rattle.bencode.specs.Depth.{largestDepth}
 use Rattle.bencode.specs.Integers.{InRange}
@@ -19,7 +19,7 @@ use Rattle.bencode.specs.Key.{isUsed, keyFault}
 use Rattle.bencode.specs.Value.{Value, integer, string, list, Values, no-value, value, encodeString, encode, WellFormed}
 use Rattle.octets.proofs.sequences.BeginsLaws.{part-begins}
 use Rattle.octets.proofs.sequences.Order.{clash}
-use Rattle.octets.proofs.digits.Table.{at}
+use Rattle.octets.proofs.general.Table.{at}
 use Rattle.octets.specs.Ascii.{ascii}
 use Rattle.ipc.specs.declared.format.Checked.{Checked}
 use Rattle.ipc.specs.declared.ids.OptionalTag.{OptionalTag}
@@ -44,7 +44,7 @@ use Rattle.ipc.proofs.headers.HexLaws.{header-length, header-digits, fr
 use Rattle.ipc.proofs.IdLists.{id-list-formed, id-list-exactly}
 use Rattle.ipc.proofs.meaning.Inverts.{spelling, untagged-text, tagged-text}
 use Rattle.ipc.proofs.WritesBack.{Stands, text-stands, stands-in, payload-again}
-use Rattle.ipc.proofs.writing.WriteLaws.{frame-length}
+use Rattle.ipc.proofs.writing.WriterLaws.{frame-length}
 use Rattle.ipc.proofs.frames.VersionLaws.{range-is, range-made}
 
 -- ---- what a count says
@@ -155,9 +155,9 @@ module _ (s : List ℕ) (at : ℕ) where
   ids-named : (f : List ℕ) (d : IdList s) → Stands f at (list (d .ids)) → Named Class.IdList f Given.Bytes s (contentOf (wholeAt at (list (d .ids))))
   ids-named f d b =
       let size : length (encode (list (d .ids))) ≡ length s = ap length (sym (d .is)) in
-      let stands : bytesFrom f (headerLength + at) (headerLength + at + length (encode (list (d .ids)))) ≡ encode (list (d .ids)) =
+      let stands : slice f (headerLength + at) (headerLength + at + length (encode (list (d .ids)))) ≡ encode (list (d .ids)) =
       part-begins f (headerLength + at) (headerLength + at + length (encode (list (d .ids)))) (encode (list (d .ids))) b in
-      (headerLength + at, ap (λ (k : ℕ). part (headerLength + at) k) size, ap (λ (k : ℕ). bytesFrom f (headerLength + at) (headerLength + at + k)) (sym size) ∙ stands ∙ sym (d .is))
+      (headerLength + at, ap (λ (k : ℕ). part (headerLength + at) k) size, ap (λ (k : ℕ). slice f (headerLength + at) (headerLength + at + k)) (sym size) ∙ stands ∙ sym (d .is))
 
   ids-handed : IdList s → Handed Class.IdList Given.Bytes s at
   unfolding encodeGiven

@@ -27,7 +27,7 @@ use Rattle.ipc.specs.Worthless.{RefusingReaderFalls, ConstantReaderFalls
 use Rattle.ipc.proofs.Accepts.{accepts-exactly, answers-by-row}
 use Rattle.ipc.proofs.headers.HexLaws.{header-length, from-header}
 use Rattle.ipc.proofs.meaning.Inverts.{inverts}
-use Rattle.ipc.proofs.writing.WriteLaws.{frame-length}
+use Rattle.ipc.proofs.writing.WriterLaws.{frame-length}
 use Rattle.ipc.proofs.ReadsBack.{reads-back, handshake-reads-back}
 use Rattle.ipc.proofs.Tried.{frames-tried}
 use Rattle.ipc.proofs.WritesBack.{writes-back}

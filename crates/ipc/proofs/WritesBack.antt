@@ -34,7 +34,7 @@ use Rattle.ipc.specs.Writer.{integerFits, valueFits, encodeGiven, encode
 use Rattle.ipc.specs.Demands.{HexDigits, hexFrom, Framed, givenOf, bytesOf, WritesBack}
 use Rattle.ipc.proofs.Accepts.{accepts-exactly}
 use Rattle.ipc.proofs.headers.HexLaws.{header-from}
-use Rattle.ipc.proofs.writing.WriteLaws.{fitted-count}
+use Rattle.ipc.proofs.writing.WriterLaws.{fitted-count}
 use Rattle.ipc.proofs.meaning.Inverts.{key-named, written-listed, spelling, Meant, inverts}
 use Rattle.ipc.proofs.IdLists.{id-list-exactly}
 

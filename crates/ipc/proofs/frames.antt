@@ -1,5 +1,5 @@
 pub mod VersionLaws
 pub mod HandshakeLaws
 pub mod MessageLaws
-pub mod FrameLaws
+pub mod ReaderLaws
 pub mod NumberLaws

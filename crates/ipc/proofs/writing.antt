@@ -1,3 +1,3 @@
 pub mod LengthLaws
-pub mod WriteLaws
-pub mod WriteHandshakeLaws
+pub mod WriterLaws
+pub mod HandshakeWriterLaws

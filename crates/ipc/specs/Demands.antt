@@ -10,7 +10,7 @@ use lib.ListN.{length, take}
 use Rattle.bencode.specs.declared.fault.Fault.{Fault}
 use Rattle.bencode.specs.declared.fault.Walk.{Walk}
 use Rattle.bencode.specs.declared.profile.Profile.{Profile}
-use Rattle.octets.specs.Bytes.{part as bytesFrom}
+use Rattle.octets.specs.Bytes.{slice}
 use Rattle.bencode.specs.Depth.{largestDepth}
 use Rattle.bencode.specs.Integers.{InRange}
 use Rattle.bencode.specs.Value.{Value, list, Values, encode, WellFormed}
@@ -19,7 +19,8 @@ use Rattle.ipc.specs.declared.keys.Class.{Class}
 use Rattle.ipc.specs.declared.writer.Given.{Given}
 use Rattle.ipc.specs.declared.writer.Written.{Written}
 use Rattle.ipc.specs.Answer.{Answer, Content, nothing, integer, text, part, versions, message, refused, accepted, acceptedHandshake}
-use Rattle.ipc.specs.Header.{headerLength, largestPayload, protocolPayload, hexValue}
+use Rattle.ipc.specs.declared.header.Header.{Header}
+use Rattle.ipc.specs.Header.{headerLength, largestPayload, protocolPayload, hexValue, readHeader, headerCode, headerOffset, lengthCode}
 use Rattle.ipc.specs.Reader.{readFrame}
 use Rattle.ipc.specs.Hex.{upperHeader}
 use Rattle.ipc.specs.Keys.{classOf, isWritten}
@@ -37,7 +38,8 @@ unfoldable pub hexFrom : ℕ → List ℕ → ℕ
 hexFrom v [] = v
 hexFrom v (c ∷ cs) = hexFrom (16 * v + hexValue c) cs
 
--- a frame with an answer: 8 hex digits for a length of at most 32,768, the encoding of a well-formed value of that length that means the answer, and any bytes
+-- a frame with an answer: 8 hex digits for a length of at most 32,768, the encoding of a well-formed value of that length
+-- that means the answer, and any bytes
 pub record Framed (s : List ℕ) (a : Answer) : Type 0 where
   pub header : List ℕ
   pub payload : Value
@@ -98,6 +100,12 @@ AnswersByRowFor read = (s : List ℕ) (a : Answer) → (read s ≡ a) ↔ Answer
 abbrev pub AnswersByRow : Type 0
 AnswersByRow = AnswersByRowFor readFrame
 
+-- a fault of the header, or of the length that it says, is the reader's answer
+abbrev pub HeaderAnswered : Type 0
+HeaderAnswered = (s : List ℕ) →
+    ((headerCode (readHeader s) ≡ 0 → ⊥) → readFrame s ≡ refused (headerCode (readHeader s)) (headerOffset (readHeader s)))
+    × ((n : ℕ) → readHeader s ≡ Header.Length n → (lengthCode n ≡ 0 → ⊥) → readFrame s ≡ refused (lengthCode n) 0)
+
 -- ---- writing
 -- bytes that are the encoding of a list of torrent IDs
 pub record IdList (s : List ℕ) : Type 0 where
@@ -131,7 +139,7 @@ bytesNamed Class.IdList at n = part at n
 abbrev pub Named : Class → List ℕ → Given → List ℕ → Content → Type 0
 Named class frame Given.Nothing s c = c ≡ nothing
 Named class frame (Given.Integer z) s c = c ≡ integer z
-Named class frame Given.Bytes s c = (at : ℕ) × (c ≡ bytesNamed class at (length s)) × (bytesFrom frame at (at + length s) ≡ s)
+Named class frame Given.Bytes s c = (at : ℕ) × (c ≡ bytesNamed class at (length s)) × (slice frame at (at + length s) ≡ s)
 
 -- demand 1: a refusal has count 0 and leaves the lent buffer as it was
 abbrev pub RefusalKeeps : Type 0
@@ -187,11 +195,12 @@ givenOf (versions low high) = Given.Nothing
 abbrev pub bytesOf : List ℕ → Content → List ℕ
 bytesOf f nothing = []
 bytesOf f (integer z) = []
-bytesOf f (text at n) = bytesFrom f at (at + n)
-bytesOf f (part at n) = bytesFrom f at (at + n)
+bytesOf f (text at n) = slice f at (at + n)
+bytesOf f (part at n) = slice f at (at + n)
 bytesOf f (versions low high) = []
 
--- demand 2: an accepted frame of a key that is written, unless its value is ignored, is written again, given room, as the same bytes but for the case of hex letters
+-- demand 2: an accepted frame of a key that is written, unless its value is ignored, is written again, given room, as the
+-- same bytes but for the case of hex letters
 abbrev pub WritesBackFor : Writer → Type 0
 WritesBackFor w = (f : List ℕ) (a : Answer) (room : ℕ) → readFrame f ≡ a → a .code ≡ 0 → a .kind ≡ message → isWritten (a .key) ≡ true → (classOf (a .key) ≡ Class.Ignored → ⊥) → a .consumed ≤ room
     → (w .answer (a .key) (givenOf (a .value)) (bytesOf f (a .value)) (a .tag) room ≡ Written.Count (a .consumed))

@@ -1,4 +1,5 @@
--- Pinned by `AnswersMeaning`. The formats of values (document 01, 'The message'), as they are checked in a payload.
+-- Pinned by `AnswersMeaning`; the largest port is to be believed. The formats of values (document 01, 'The message'), as they
+-- are checked in a payload.
 -- Assumes nothing.
 use Prim.Native.Nat.{ℕ, _+_, _-_}
 use mathlib.Core.Bool.{Bool, true, cond}
@@ -10,7 +11,7 @@ use Rattle.bencode.specs.declared.strings.Text.{Text}
 use Rattle.octets.specs.Bytes.{byteAt}
 use Rattle.bencode.specs.Letters.{letterD, letterL}
 use Rattle.bencode.specs.Integers.{integerAt, within}
-use Rattle.bencode.specs.Loop.{Step, next, done, itemsFrom}
+use Rattle.bencode.specs.Loop.{LoopStep, next, done, itemsFrom}
 use Rattle.bencode.specs.Strings.{stringAt}
 use Rattle.bencode.specs.Skip.{skipRest}
 use Rattle.bencode.specs.Field.{fieldOf, ifInteger}
@@ -74,7 +75,7 @@ itemEnd Items.Ids p at = idEnd p at
 itemEnd Items.Torrents p at = torrentEnd p at
 
 -- goes on after an item, or ends where it is off its format
-abbrev pub pastItem : OptionalEnd → Unit {0} → Step (Unit {0}) OptionalEnd
+abbrev pub pastItem : OptionalEnd → Unit {0} → LoopStep (Unit {0}) OptionalEnd
 pastItem (OptionalEnd.End end) x = next end x
 pastItem OptionalEnd.None x = done OptionalEnd.None
 

@@ -1,5 +1,5 @@
--- Refusals are to be believed; a frame's bytes are pinned by `HandshakeReadsBack`. The writer of handshakes (document 01, 'What
--- the writer says').
+-- To be believed: refusals, `version` alone, `min` before `max`; the range is pinned by `HandshakeReadsBack`. The writer of
+-- handshakes (document 01, 'What the writer says').
 -- Assumes nothing.
 use Prim.Native.Nat.{ℕ}
 use mathlib.Core.List.{List}

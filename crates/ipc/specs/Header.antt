@@ -1,5 +1,5 @@
--- Limits and hex digits are to be believed; reading is pinned by `AnswersByRow`. The header of a frame: 8 hex digits of either
--- case for the payload's length (document 01, 'The frame').
+-- Limits, hex digits and codes are to be believed; reading is pinned by `AnswersByRow`, the codes by `HeaderAnswered`. The
+-- header of a frame: 8 hex digits of either case for the payload's length (document 01, 'The frame').
 -- Assumes nothing.
 use mathlib.Core.Bool.{true, false, cond}
 use mathlib.Core.List.{List, [], _∷_}
@@ -28,7 +28,8 @@ hexValue c =
     (c - 48)
     (cond (ltb c 65) 16 (cond (ltb c 71) (c - 55) (cond (ltb c 97) 16 (cond (ltb c 103) (c - 87) 16)))))
 
--- what reading k hex digits finds, at an offset and after those of v: the number, the offset of the first byte that is none, or too few bytes
+-- what reading k hex digits finds, at an offset and after those of v: the number, the offset of the first byte that is none,
+-- or too few bytes
 unfoldable pub headerIn : ℕ → ℕ → ℕ → List ℕ → Header
 headerIn zero i v s = Header.Length v
 headerIn (suc k) i v [] = Header.Short

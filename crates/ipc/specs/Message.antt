@@ -8,7 +8,7 @@ use lib.ListN.{length}
 use Rattle.bencode.specs.declared.integers.Number.{Number}
 use Rattle.bencode.specs.declared.item.Item.{Item}
 use Rattle.bencode.specs.declared.strings.Text.{Text}
-use Rattle.octets.specs.Bytes.{byteAt, part}
+use Rattle.octets.specs.Bytes.{byteAt, slice}
 use Rattle.bencode.specs.Letters.{letterE}
 use Rattle.bencode.specs.Integers.{integerAt}
 use Rattle.bencode.specs.Strings.{stringAt}
@@ -51,7 +51,7 @@ fromValue p key at (Item.Value end) = fromTag p (keyNumber key) at end (tailAt p
 fromValue p key at Item.End = Reading.NoMessage
 
 abbrev pub fromKey : List ℕ → Text → Reading
-fromKey p (Text.Bytes start end) = fromValue p (part p start end) end (itemAt p end)
+fromKey p (Text.Bytes start end) = fromValue p (slice p start end) end (itemAt p end)
 fromKey p (Text.Fault f) = Reading.NoMessage
 
 -- what is read of a payload that is a list

@@ -1,4 +1,5 @@
--- To be believed; `NoKindRefused` says what a kind is worth. The reader's answer as numbers. What an answer does not name is 0.
+-- To be believed; `RefusalHasNoKind` says what a kind is worth. The reader's answer as numbers. What an answer does not name is
+-- 0.
 -- Assumes nothing.
 use Prim.Native.Nat.{ℕ}
 use mathlib.Core.Path.{_≡_}
@@ -45,5 +46,5 @@ numbersOf a =
     }
 
 -- an answer that has a kind is accepted: a 22 is never taken for a message
-abbrev pub NoKindRefused : Type 0
-NoKindRefused = (a : Answer) → (a .code ≡ 0 → ⊥) → numbersOf a .kind ≡ 0
+abbrev pub RefusalHasNoKind : Type 0
+RefusalHasNoKind = (a : Answer) → (a .code ≡ 0 → ⊥) → numbersOf a .kind ≡ 0

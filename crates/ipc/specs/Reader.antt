@@ -7,7 +7,7 @@ use lib.Dec.{eqb, leb}
 use lib.ListN.{length}
 use Rattle.bencode.specs.declared.fault.Walk.{Walk}
 use Rattle.bencode.specs.declared.profile.Profile.{Profile}
-use Rattle.octets.specs.Bytes.{byteAt, part}
+use Rattle.octets.specs.Bytes.{byteAt, slice}
 use Rattle.bencode.specs.Letters.{letterD, letterL}
 use Rattle.bencode.specs.Walk.{payloadAt}
 use Rattle.ipc.specs.declared.header.Header.{Header}
@@ -32,7 +32,7 @@ payloadReading p = walked p (payloadAt Profile.Loose p)
 
 -- what is read of a frame whose payload has a length
 unfoldable pub lengthReading : List ℕ → ℕ → Reading
-lengthReading s n = cond (leb (headerLength + n) (length s)) (payloadReading (part s headerLength (headerLength + n))) Reading.Incomplete
+lengthReading s n = cond (leb (headerLength + n) (length s)) (payloadReading (slice s headerLength (headerLength + n))) Reading.Incomplete
 
 abbrev pub bySize : List ℕ → Sized → Reading
 bySize s (Sized.Length n) = lengthReading s (n .0)

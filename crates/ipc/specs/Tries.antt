@@ -41,7 +41,8 @@ tries =
 abbrev pub FramesTried : Type 0
 FramesTried = map (λ t. readFrame (ascii (t .frame))) tries ≡ map (λ t. t .answer) tries
 
--- frames as they are written: the length in upper case, `0:` for an ignored value and no tag for 0; a tag; a handshake with `min` before `max`
+-- frames as they are written: the length in upper case, `0:` for an ignored value and no tag for 0; a tag; a handshake with
+-- `min` before `max`
 abbrev pub FramesWritten : Type 0
 FramesWritten = (frameOf (payloadOf 11 Given.Nothing [] 0) ≡ ascii "0000000Al4:noop0:e")
     × (frameOf (payloadOf 16 Given.Bytes (ascii "li8ee") 15) ≡ ascii "00000012l5:startli8eei15ee")

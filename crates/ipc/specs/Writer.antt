@@ -1,5 +1,5 @@
--- Refusals are to be believed; a frame's bytes are pinned by `ReadsBack` and `WritesBack`. The writer of messages (document 01,
--- 'What the writer says').
+-- To be believed: refusals, `0:` for an ignored value, upper case. Else a frame's bytes are pinned by `ReadsBack` and
+-- `WritesBack`, `isIdList` by `IdListExactly`. The writer of messages (document 01, 'What the writer says').
 -- Assumes nothing.
 use Prim.Native.Nat.{ℕ, _+_}
 use mathlib.Core.Path.{_≡_}
@@ -9,6 +9,7 @@ use lib.Dec.{eqb, leb}
 use lib.IntN.{ℤ, pos}
 use lib.ListN.{length, drop}
 use Rattle.octets.specs.Bytes.{byteAt}
+use Rattle.octets.specs.Put.{atFront}
 use Rattle.bencode.specs.Letters.{letterE, letterL}
 use Rattle.bencode.specs.Value.{integer, encodeString, encode}
 use Rattle.bencode.specs.Integers.{within}
@@ -34,7 +35,7 @@ writtenCount (Written.Refused c) = 0
 
 -- the buffer after an answer: the frame and then the bytes as they were, or all as it was
 abbrev pub bufferAfter : Written → List ℕ → List ℕ → List ℕ
-bufferAfter (Written.Count n) frame before = frame ++ drop (length frame) before
+bufferAfter (Written.Count n) frame before = atFront frame before
 bufferAfter (Written.Refused c) frame before = before
 
 -- ---- the format of a value that is handed in

@@ -1,3 +1,4 @@
+pub mod general
 pub mod sequences
 pub mod digits
 pub mod writing

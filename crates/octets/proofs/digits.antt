@@ -1,4 +1,3 @@
-pub mod Table
 pub mod NumeralLaws
 pub mod DigitLaws
 pub mod DecimalLaws

@@ -19,8 +19,8 @@ abbrev pub byteAt : List ℕ → ℕ → ℕ
 byteAt s at = getD s at 0
 
 -- the bytes from an offset up to another
-abbrev pub part : List ℕ → ℕ → ℕ → List ℕ
-part s start end = take (end - start) (drop start s)
+abbrev pub slice : List ℕ → ℕ → ℕ → List ℕ
+slice s start end = take (end - start) (drop start s)
 
 -- some bytes stand from an offset up to another
 pub record Begins (s : List ℕ) (at : ℕ) (bytes : List ℕ) (end : ℕ) : Type 0 where

@@ -1,5 +1,5 @@
--- `decimal` is to be believed; reading is pinned by bencode's `ReadsInteger` and `ReadsString`. Decimal numerals (document
--- 01, 'The frame': no leading zero).
+-- `decimal` and `capped` are to be believed; reading is pinned by bencode's `ReadsInteger`, `ReadsString` and `AcceptsExactly`.
+-- Decimal numerals (document 01, 'The frame': no leading zero).
 -- Assumes nothing.
 use Prim.Native.Nat.{ℕ, zero, suc, _+_, _-_, _*_, _/_, _%_, _^_, min}
 use mathlib.Core.Bool.{Bool, cond, _&&_}
@@ -20,7 +20,7 @@ digits n at (b ∷ bs) =
     let more = digits (n * 10 + (b - digit0)) (at + 1) bs in
     cond (isDigit b) more (record { end = at; number = n })
 
--- the digits of a payload from an offset on
+-- the digits of bytes from an offset on
 abbrev pub digitsAt : List ℕ → ℕ → Decimal
 digitsAt s at = digits 0 at (drop at s)
 

@@ -3,9 +3,9 @@
 use Prim.Native.Nat.{ℕ, _+_}
 use mathlib.Core.Path.{_≡_}
 use mathlib.Core.Bool.{cond}
-use mathlib.Core.List.{List}
+use mathlib.Core.List.{List, _++_}
 use lib.Dec.{leb}
-use lib.ListN.{length}
+use lib.ListN.{length, drop}
 use lib.Seq.{sets}
 
 -- after is the buffer before with the bytes stored from an offset on, and end is the offset after them
@@ -23,3 +23,7 @@ offsetAfter before at bytes = cond (leb (at + length bytes) (length before)) (at
 pub record Put (before : List ℕ) (at : ℕ) (bytes after : List ℕ) (end : ℕ) : Type 0 where
   pub stored : after ≡ bufferWith before at bytes
   pub ended : end ≡ offsetAfter before at bytes
+
+-- bytes at the front of a buffer, which is as it was past them
+abbrev pub atFront : List ℕ → List ℕ → List ℕ
+atFront bytes before = bytes ++ drop (length bytes) before

@@ -2,7 +2,7 @@
 ghost use mathlib.Core.Path.{_≡_};
 ghost use Rattle.octets.specs.Bytes.{byteAt, same, less};
 
-// The byte at an offset, and 0 past the end: no format that is read with it has a 0 where its end matters.
+// The byte at an offset, and 0 past the end.
 pub fn byte_at(s: &[u8], at: usize) -> u8
     ensures { λ r. ⌜ r ≡ byteAt (now (s .entry)) at ⌝ }
 {

@@ -11,7 +11,7 @@ use lib.ListN.{length}
 use Rattle.octets.specs.Bytes.{byteAt}
 use Rattle.strip.specs.declared.record.Record.{Record}
 use Rattle.strip.specs.declared.record.Decoded.{Decoded}
-use Rattle.strip.specs.Record.{bodyLength, mayStand, callKind, callOf, watchOf, bodyAt, faultAt, placedAt, endAt, wholeAt, longestStrip, recordAt}
+use Rattle.strip.specs.Record.{bodyLength, mayStand, callKind, callOf, watchOf, bodyAt, faultAt, placedAt, endAt, wholeRecordAt, longestStrip, recordAt}
 use Rattle.strip.specs.Demands.{HasKind, KindNamed}
 
 -- a test is true or false, and the case has the equation
@@ -80,8 +80,8 @@ end-kind : (at k : ℕ) → HasKind (endAt at .found) k
 unfolding endAt
 end-kind at k = cases (λ (d : Decoded). HasKind (d .found) k) (eqb at 0) (λ e. fault-kind 0 k) (λ e. tt)
 
-whole-kind : (s : List ℕ) (at : ℕ) (called : Bool) → HasKind (wholeAt s at called .found) (byteAt s at)
-unfolding wholeAt
+whole-kind : (s : List ℕ) (at : ℕ) (called : Bool) → HasKind (wholeRecordAt s at called .found) (byteAt s at)
+unfolding wholeRecordAt
 whole-kind s at called =
     let kind = byteAt s at in
     cases (λ (d : Decoded). HasKind (d .found) kind) (mayStand (eqb at 0) called kind)

@@ -19,7 +19,7 @@ use Rattle.strip.specs.declared.run.Run.{Run}
 use Rattle.strip.specs.declared.run.Step.{Step}
 use Rattle.strip.specs.Record.{callKind, recordAt}
 use Rattle.strip.specs.Answer.{answer}
-use Rattle.strip.specs.Line.{openText, faultText, callText, blank, textOf, textBytes}
+use Rattle.strip.specs.Line.{openText, faultText, callText, blank, outputOf, outputBytes}
 use Rattle.strip.specs.Printed.{Records, call, end, followed, recordsFrom, recordsOf, printedOpen, printedOpening, printedFrom, printed}
 use Rattle.strip.specs.Run.{begun, withLimits, withWatch, withDesk, ended, printing, silent, opened, performed, faulted, taken, stepped, printedBy}
 use Rattle.strip.specs.Demands.{PrintsWhole}
@@ -29,13 +29,13 @@ use Rattle.strip.proofs.records.Forward.{Forward, forward, Meets, again
 use Rattle.strip.proofs.running.StepsLeft.{stepsLeft, some-left, step-falls, over-after}
 
 -- ---- what steps print
-text-bytes : (t : List ℕ) → textBytes (textOf t) ≡ t
-unfolding textBytes textOf
+text-bytes : (t : List ℕ) → outputBytes (outputOf t) ≡ t
+unfolding outputBytes outputOf
 text-bytes t = take-append-seam t (drop (length t) blank)
 
 -- what a step prints, and those after it
 abbrev Printing : ℕ → List ℕ → Step → List ℕ → Type 0
-Printing n s step t = textBytes (step .text) ++ printedBy n s (step .run) ≡ t
+Printing n s step t = outputBytes (step .output) ++ printedBy n s (step .run) ≡ t
 
 printing-then : (n : ℕ) (s text rest : List ℕ) (r : Run) → printedBy n s r ≡ rest → Printing n s (printing text r) (text ++ rest)
 printing-then n s text rest r e = ap₂ (λ (x y : List ℕ). x ++ y) (text-bytes text) e
@@ -43,11 +43,11 @@ printing-then n s text rest r e = ap₂ (λ (x y : List ℕ). x ++ y) (text-byte
 printed-over : (n : ℕ) (s : List ℕ) (r : Run) → r .over ≡ true → printedBy n s r ≡ []
 unfolding printedBy
 printed-over zero s r e = refl
-printed-over (suc n) s r e = ap (λ b. cond b [] (textBytes (stepped s r .text) ++ printedBy n s (stepped s r .run))) e
+printed-over (suc n) s r e = ap (λ b. cond b [] (outputBytes (stepped s r .output) ++ printedBy n s (stepped s r .run))) e
 
 printed-more : (n : ℕ) (s t : List ℕ) (r : Run) → r .over ≡ false → Printing n s (stepped s r) t → printedBy (suc n) s r ≡ t
 unfolding printedBy
-printed-more n s t r e p = ap (λ b. cond b [] (textBytes (stepped s r .text) ++ printedBy n s (stepped s r .run))) e ∙ p
+printed-more n s t r e p = ap (λ b. cond b [] (outputBytes (stepped s r .output) ++ printedBy n s (stepped s r .run))) e ∙ p
 
 -- a step that is another one
 the-same : (n : ℕ) (s t : List ℕ) (x y : Step) → x ≡ y → (stepsLeft s (y .run) ≤ n → Printing n s y t) → stepsLeft s (x .run) ≤ n → Printing n s x t

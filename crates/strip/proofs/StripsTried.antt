@@ -17,13 +17,13 @@ use Rattle.desk.specs.Command.{values, idList, messageFrame, commandFrame, fram
 use Rattle.desk.specs.Refusal.{callFault}
 use Rattle.desk.specs.Plan.{deskAfter, raiseCommands, clearCommands, commandsOf, plan}
 use Rattle.desk.specs.Calls.{decided, framed, delivered, outcome}
-use Rattle.strip.specs.Number.{numberAt, signed}
-use Rattle.strip.specs.Record.{bodyLength, mayStand, callOf, watchOf, bodyAt, faultAt, wholeAt, endAt, recordAt}
+use Rattle.strip.specs.Number.{numberAt, twosComplement}
+use Rattle.strip.specs.Record.{bodyLength, mayStand, callOf, watchOf, bodyAt, faultAt, wholeRecordAt, endAt, recordAt}
 use Rattle.strip.specs.Answer.{answer}
 use Rattle.strip.specs.Line.{wordText, callLine, framesText, callText}
 use Rattle.strip.specs.Printed.{recordsFrom, recordsOf, printedOpen, printedOpening, printedFrom, printed}
 use Rattle.strip.specs.Tries.{hexBytes, lines, tries, StripsTried}
 
 pub strips-tried : StripsTried
-unfolding tries hexBytes hexValue lines faultAt printed recordsOf recordsFrom printedFrom printedOpening printedOpen callText framesText callLine wordText answer recordAt endAt wholeAt bodyAt watchOf callOf mayStand bodyLength signed numberAt outcome delivered framed decided plan deskAfter commandsOf callFault clearCommands raiseCommands listing framesOf commandFrame messageFrame idList values opening openCode refusedOpening withOverride withDown openedWith sound listSound limitsSound filtered listFault place has unused places isId isLimit frameOf payloadOf encodeTag encodeGiven keyText classOf listed hexDigit hexHeader hexIn ascii encode decimalBefore decimal flatten
+unfolding tries hexBytes hexValue lines faultAt printed recordsOf recordsFrom printedFrom printedOpening printedOpen callText framesText callLine wordText answer recordAt endAt wholeRecordAt bodyAt watchOf callOf mayStand bodyLength twosComplement numberAt outcome delivered framed decided plan deskAfter commandsOf callFault clearCommands raiseCommands listing framesOf commandFrame messageFrame idList values opening openCode refusedOpening withOverride withDown openedWith sound listSound limitsSound filtered listFault place has unused places isId isLimit frameOf payloadOf encodeTag encodeGiven keyText classOf listed hexDigit hexHeader hexIn ascii encode decimalBefore decimal flatten
 strips-tried = refl

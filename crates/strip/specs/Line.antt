@@ -4,6 +4,7 @@ use Prim.Native.Nat.{ℕ, _+_}
 use mathlib.Core.List.{List, [], _∷_, _++_, flatten}
 use lib.ListN.{length, take, drop, replicate}
 use Rattle.octets.specs.Numerals.{decimal}
+use Rattle.octets.specs.Put.{atFront}
 use Rattle.octets.specs.Ascii.{ascii}
 use Rattle.desk.specs.Command.{longestFrames}
 use Rattle.strip.specs.declared.output.Output.{Output}
@@ -53,9 +54,9 @@ outputRoom = longestLine + longestFrames + 1
 abbrev pub blank : List ℕ
 blank = replicate outputRoom 0
 
-unfoldable pub textOf : List ℕ → Output
-textOf text = record { bytes = text ++ drop (length text) blank; length = length text }
+unfoldable pub outputOf : List ℕ → Output
+outputOf text = record { bytes = atFront text blank; length = length text }
 
 -- the bytes of a text
-unfoldable pub textBytes : Output → List ℕ
-textBytes t = take (t .length) (t .bytes)
+unfoldable pub outputBytes : Output → List ℕ
+outputBytes t = take (t .length) (t .bytes)

@@ -12,8 +12,8 @@ unfoldable pub numberAt : List ℕ → ℕ → ℕ
 numberAt s at = byteAt s at + byteAt s (at + 1) * 256 + byteAt s (at + 2) * 65536 + byteAt s (at + 3) * 16777216
 
 -- the integer of 32 bits
-unfoldable pub signed : ℕ → ℤ
-signed n = cond (ltb n 2147483648) (pos n) (negsuc (4294967295 - n))
+unfoldable pub twosComplement : ℕ → ℤ
+twosComplement n = cond (ltb n 2147483648) (pos n) (negsuc (4294967295 - n))
 
 abbrev pub limitAt : List ℕ → ℕ → ℤ
-limitAt s at = signed (numberAt s at)
+limitAt s at = twosComplement (numberAt s at)

@@ -38,7 +38,8 @@ recordsFrom (suc n) s at called =
     let r = recordAt s at called in
     followed (r .found) (r .offset) called (λ next after. recordsFrom n s next after)
 
--- a record has a byte at least: there are no more than the strip has bytes, and then its end (that they suffice, `PrintsWhole` says too)
+-- a record has a byte at least: there are no more than the strip has bytes, and then its end (that they suffice,
+-- `PrintsWhole` says too)
 unfoldable pub recordsOf : List ℕ → Records
 recordsOf s = recordsFrom (suc (length s)) s 0 false
 

@@ -67,8 +67,8 @@ unfoldable pub endAt : ℕ → Decoded
 endAt at = cond (eqb at 0) (faultAt 0) (record { found = Record.End; offset = at })
 
 -- the record at an offset: it may stand there, and its body is all there
-unfoldable pub wholeAt : List ℕ → ℕ → Bool → Decoded
-wholeAt s at called =
+unfoldable pub wholeRecordAt : List ℕ → ℕ → Bool → Decoded
+wholeRecordAt s at called =
     let kind = byteAt s at in
     cond (mayStand (eqb at 0) called kind)
     (cond (leb (at + 1 + bodyLength kind) (length s)) (placedAt (bodyAt kind s (at + 1)) at (at + 1 + bodyLength kind)) (faultAt at))
@@ -80,4 +80,4 @@ longestStrip = 16384
 
 -- what stands at an offset of a strip, after a call or before any
 unfoldable pub recordAt : List ℕ → ℕ → Bool → Decoded
-recordAt s at called = cond (leb (length s) longestStrip) (cond (leb (length s) at) (endAt at) (wholeAt s at called)) (faultAt longestStrip)
+recordAt s at called = cond (leb (length s) longestStrip) (cond (leb (length s) at) (endAt at) (wholeRecordAt s at called)) (faultAt longestStrip)

@@ -17,7 +17,7 @@ use Rattle.strip.specs.declared.run.Step.{Step}
 use Rattle.strip.specs.Record.{callKind, recordAt}
 use Rattle.strip.specs.Gather.{nothingGathered, gathered}
 use Rattle.strip.specs.Answer.{answer}
-use Rattle.strip.specs.Line.{openText, faultText, callText, textOf, textBytes}
+use Rattle.strip.specs.Line.{openText, faultText, callText, outputOf, outputBytes}
 
 -- ---- the run
 unfoldable pub begun : Run
@@ -48,7 +48,7 @@ ended r = record { at = r .at; called = r .called; over = true; down = r .down; 
 
 -- ---- a step: the run after it, and what it prints
 abbrev pub printing : List ℕ → Run → Step
-printing text r = record { run = r; text = textOf text }
+printing text r = record { run = r; output = outputOf text }
 
 unfoldable pub silent : Run → Step
 silent r = printing [] r
@@ -89,7 +89,7 @@ stepped s r = let d = recordAt s (r .at) (r .called) in taken (d .found) (d .off
 -- ---- steps, until the run is over: what they print, and the run after them
 unfoldable pub printedBy : ℕ → List ℕ → Run → List ℕ
 printedBy zero s r = []
-printedBy (suc n) s r = let next = stepped s r in cond (r .over) [] (textBytes (next .text) ++ printedBy n s (next .run))
+printedBy (suc n) s r = let next = stepped s r in cond (r .over) [] (outputBytes (next .output) ++ printedBy n s (next .run))
 
 unfoldable pub runAfter : ℕ → List ℕ → Run → Run
 runAfter zero s r = r

@@ -5,14 +5,14 @@ ghost use mathlib.Core.List.{[]};
 ghost use lib.ListN.{length};
 ghost use Rattle.octets.specs.Put.{Wrote};
 ghost use Rattle.desk.specs.Command.{longestFrames};
-ghost use Rattle.strip.specs.Line.{wordText, callLine, framesText, callText, longestWord, longestLine, textOf};
+ghost use Rattle.strip.specs.Line.{wordText, callLine, framesText, callText, longestWord, longestLine, outputOf};
 use super::output::Output;
 use octets::put_bytes;
 use octets::put_decimal;
 
 // No line.
-pub fn no_text() -> Output
-    ensures { λ r. ⌜ r ≡ textOf [] ⌝ }
+pub fn no_output() -> Output
+    ensures { λ r. ⌜ r ≡ outputOf [] ⌝ }
 {
     Output {
         bytes: [0u8; Output::ROOM],
@@ -23,7 +23,7 @@ pub fn no_text() -> Output
 // A line of a word and a number.
 pub fn word_text(word: &[u8], n: usize) -> Output
     requires { ⌜ length (now word) ≤ longestWord ⌝ }
-    ensures { λ r. ⌜ r ≡ textOf (wordText (now (word .entry)) n) ⌝ }
+    ensures { λ r. ⌜ r ≡ outputOf (wordText (now (word .entry)) n) ⌝ }
 {
     let mut bytes = [0u8; Output::ROOM];
     let o = put_bytes(&mut bytes, 0, word);
@@ -60,7 +60,7 @@ fn put_frames(out: &mut [u8], at: usize, frames: &[u8]) -> usize
 // A call's line, and the bytes it wrote on the next.
 pub fn call_text(kind: u8, code: u8, frames: &[u8]) -> Output
     requires { ⌜ length (now frames) ≤ longestFrames ⌝ }
-    ensures { λ r. ⌜ r ≡ textOf (callText kind code (now (frames .entry))) ⌝ }
+    ensures { λ r. ⌜ r ≡ outputOf (callText kind code (now (frames .entry))) ⌝ }
 {
     let mut bytes = [0u8; Output::ROOM];
     let o = put_call(&mut bytes, kind, code, frames.len());

@@ -3,7 +3,7 @@ ghost use mathlib.Core.Path.{_≡_};
 ghost use Prim.Native.Nat.{_+_, _≤_, _<_};
 ghost use lib.ListN.{length};
 ghost use lib.Signed.{mag};
-ghost use Rattle.strip.specs.Number.{numberAt, signed, limitAt};
+ghost use Rattle.strip.specs.Number.{numberAt, twosComplement, limitAt};
 use octets::byte_at;
 
 // The number at an offset.
@@ -20,7 +20,7 @@ pub fn number_at(s: &[u8], at: usize) -> u32
 
 // A number in two's complement.
 fn from_bits(n: u32) -> i32
-    ensures { λ r. ⌜ (r ≡ signed n) × (mag r < 2147483648) ⌝ }
+    ensures { λ r. ⌜ (r ≡ twosComplement n) × (mag r < 2147483648) ⌝ }
 {
     if n < 2147483648 {
         return n as i32;

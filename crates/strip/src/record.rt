@@ -2,7 +2,7 @@
 ghost use mathlib.Core.Path.{_≡_};
 ghost use Prim.Native.Nat.{_+_, _≤_, _<_};
 ghost use lib.ListN.{length};
-ghost use Rattle.strip.specs.Record.{bodyLength, mayStand, callOf, callKind, watchOf, bodyAt, faultAt, placedAt, endAt, wholeAt, recordAt};
+ghost use Rattle.strip.specs.Record.{bodyLength, mayStand, callOf, callKind, watchOf, bodyAt, faultAt, placedAt, endAt, wholeRecordAt, recordAt};
 use super::number::limit_at;
 use super::number::number_at;
 use desk::Call;
@@ -163,7 +163,7 @@ fn end_at(at: usize) -> Decoded
 // What stands at an offset within a strip.
 fn whole_at(s: &[u8], at: usize, called: bool) -> Decoded
     requires { ⌜ at < length (now s) ⌝ }
-    ensures { λ r. ⌜ r ≡ wholeAt (now (s .entry)) at called ⌝ }
+    ensures { λ r. ⌜ r ≡ wholeRecordAt (now (s .entry)) at called ⌝ }
 {
     let kind = byte_at(s, at);
     if !may_stand(at == 0, called, kind) {

@@ -1,11 +1,12 @@
-// A run of a strip, step by step: a step takes a record, or opens the desk before the first call or the end, and says what to print.
+// A run of a strip, step by step: a step takes a record, or opens the desk before the first call or the end, and says what
+// to print.
 ghost use mathlib.Core.Path.{_≡_};
 ghost use Rattle.strip.specs.Run.{begun, withLimits, withWatch, withDesk, ended, silent, opened, performed, faulted, callTaken, endTaken, taken, stepped};
 use super::gather::Gathered;
 use super::gather::gather;
 use super::gather::nothing_gathered;
 use super::line::call_text;
-use super::line::no_text;
+use super::line::no_output;
 use super::line::word_text;
 use super::output::Output;
 use super::record::Record;
@@ -33,7 +34,7 @@ pub struct Run {
 // The run after a step, and what the step prints.
 pub struct Step {
     pub run: Run,
-    pub text: Output,
+    pub output: Output,
 }
 
 // Nothing is read yet, and the desk is closed.
@@ -99,7 +100,7 @@ fn say_nothing(run: Run) -> Step
 {
     Step {
         run,
-        text: no_text(),
+        output: no_output(),
     }
 }
 
@@ -113,7 +114,7 @@ fn open_desk(run: Run) -> Step
     let desk = answer.desk;
     Step {
         run: with_desk(run, run.at, code != 0, desk),
-        text: word_text(b"open ", code as usize),
+        output: word_text(b"open ", code as usize),
     }
 }
 
@@ -126,7 +127,7 @@ fn make_call(run: Run, call: Call, at: usize) -> Step
     let desk = done.desk;
     Step {
         run: with_desk(run, at, run.over, desk),
-        text: call_text(call_kind(call), done.code, &frames[..done.count]),
+        output: call_text(call_kind(call), done.code, &frames[..done.count]),
     }
 }
 
@@ -155,7 +156,7 @@ fn take_fault(run: Run, at: usize) -> Step
 {
     Step {
         run: end(run),
-        text: word_text(b"strip fault ", at),
+        output: word_text(b"strip fault ", at),
     }
 }
 

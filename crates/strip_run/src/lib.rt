@@ -12,9 +12,9 @@ fn print_front(bytes: &[u8], n: usize) -> bool {
     io::write_all(STDOUT_FILENO, bytes)
 }
 
-fn print_text(text: Output) -> bool {
-    let bytes = text.bytes;
-    print_front(&bytes, text.length)
+fn print_output(output: Output) -> bool {
+    let bytes = output.bytes;
+    print_front(&bytes, output.length)
 }
 
 // Runs a strip, and says whether all was printed.
@@ -22,9 +22,9 @@ pub fn run_strip(s: &[u8]) -> bool {
     let mut run = begin();
     while !run.over {
         let step = next_step(run, s);
-        let text = step.text;
+        let output = step.output;
         run = step.run;
-        if !print_text(text) {
+        if !print_output(output) {
             return false;
         }
     }

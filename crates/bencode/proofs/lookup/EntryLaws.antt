@@ -9,12 +9,12 @@ use lib.ListN.{length}
 use Rattle.bencode.specs.declared.entry.Entry.{Entry}
 use Rattle.bencode.specs.declared.fault.Fault.{Fault}
 use Rattle.bencode.specs.declared.strings.Text.{Text}
-use Rattle.octets.specs.Bytes.{part, same}
-use Rattle.bencode.specs.Loop.{next, done, after, repeat, Past, Onward}
+use Rattle.octets.specs.Bytes.{slice, same}
+use Rattle.bencode.specs.Loop.{next, done, afterStep, repeat, Past, Onward}
 use Rattle.bencode.specs.Strings.{stringAt}
 use Rattle.bencode.specs.Skip.{skipValue}
 use Rattle.bencode.specs.Entry.{matched, findStep, entryAt}
-use Rattle.bencode.proofs.sequences.LoopLaws.{repeat-step}
+use Rattle.bencode.proofs.loops.LoopLaws.{repeat-step}
 use Rattle.bencode.proofs.walking.Ends.{string-whole-inv}
 use Rattle.bencode.proofs.lookup.SkipLaws.{skip-range}
 
@@ -32,9 +32,9 @@ module _ (s key : List ℕ) where
 
       go : (w : Text) → stringAt s at ≡ w → matched s key x w ≡ next to y → Past s at to
       go (Text.Fault f) q e = let z : _≡_ {A = ℕ} 0 1 = cc in absurd (omega arith)
-      go (Text.Bytes start end) q e = past start end q (same (part s start end) key) e
+      go (Text.Bytes start end) q e = past start end q (same (slice s start end) key) e
 
-  find-step : (at : ℕ) → entryAt s key at ≡ after (findStep s key at tt) (λ to y. entryAt s key to)
+  find-step : (at : ℕ) → entryAt s key at ≡ afterStep (findStep s key at tt) (λ to y. entryAt s key to)
   unfolding entryAt
   find-step at = repeat-step s (findStep s key) find-onward (λ (k : ℕ). Entry.Missing) at tt
 
@@ -43,10 +43,10 @@ module _ (s key : List ℕ) where
     find-none f e = rw (find-step at, e) refl
 
     module _ (start end : ℕ) (e : stringAt s at ≡ Text.Bytes start end) where
-      pub find-here : same (part s start end) key ≡ true → Entry.At end ≡ entryAt s key at
+      pub find-here : same (slice s start end) key ≡ true → Entry.At end ≡ entryAt s key at
       find-here h = rw (find-step at, e, h) refl
 
-      pub find-more : same (part s start end) key ≡ false → entryAt s key (skipValue s end) ≡ entryAt s key at
+      pub find-more : same (slice s start end) key ≡ false → entryAt s key (skipValue s end) ≡ entryAt s key at
       find-more h = rw (find-step at, e, h) refl
 
   -- a value that is found stands after the search's start, in the payload
@@ -55,7 +55,7 @@ module _ (s key : List ℕ) where
   found-past v zero at x e = let z : _≡_ {A = ℕ} 0 1 = cc in absurd (omega arith)
   found-past v (suc n) at x e = go (stringAt s at) refl e (λ to q. found-past v n to x q)
     where
-      compared : (start end : ℕ) → stringAt s at ≡ Text.Bytes start end → (t : Bool) → after (cond t (done (Entry.At end)) (next (skipValue s end) x)) (λ to y. repeat (findStep s key) Entry.Missing n to y) ≡ Entry.At v
+      compared : (start end : ℕ) → stringAt s at ≡ Text.Bytes start end → (t : Bool) → afterStep (cond t (done (Entry.At end)) (next (skipValue s end) x)) (λ to y. repeat (findStep s key) Entry.Missing n to y) ≡ Entry.At v
           → ((to : ℕ) → repeat (findStep s key) Entry.Missing n to x ≡ Entry.At v → Past s to v) → Past s at v
       compared start end q true e rec = let i : end ≡ v = cc in let w = string-whole-inv s at start end q in omega arith
       compared start end q false e rec =
@@ -64,9 +64,9 @@ module _ (s key : List ℕ) where
           let h = rec (skipValue s end) e in
           omega arith
 
-      go : (w : Text) → stringAt s at ≡ w → after (matched s key x w) (λ to y. repeat (findStep s key) Entry.Missing n to y) ≡ Entry.At v → ((to : ℕ) → repeat (findStep s key) Entry.Missing n to x ≡ Entry.At v → Past s to v) → Past s at v
+      go : (w : Text) → stringAt s at ≡ w → afterStep (matched s key x w) (λ to y. repeat (findStep s key) Entry.Missing n to y) ≡ Entry.At v → ((to : ℕ) → repeat (findStep s key) Entry.Missing n to x ≡ Entry.At v → Past s to v) → Past s at v
       go (Text.Fault f) q e rec = let z : _≡_ {A = ℕ} 0 1 = cc in absurd (omega arith)
-      go (Text.Bytes start end) q e rec = compared start end q (same (part s start end) key) e rec
+      go (Text.Bytes start end) q e rec = compared start end q (same (slice s start end) key) e rec
 
   pub find-past : (at v : ℕ) → entryAt s key at ≡ Entry.At v → Past s at v
   unfolding entryAt

@@ -12,16 +12,16 @@ use Rattle.bencode.specs.declared.fault.Fault.{Fault}
 use Rattle.bencode.specs.declared.strings.Text.{Text}
 use Rattle.bencode.specs.declared.fault.Walk.{Walk}
 use Rattle.bencode.specs.declared.profile.Profile.{Profile}
-use Rattle.octets.specs.Bytes.{byteAt, part}
+use Rattle.octets.specs.Bytes.{byteAt, slice}
 use Rattle.bencode.specs.Fault.{fault}
 use Rattle.bencode.specs.Strings.{stringAt}
 use Rattle.bencode.specs.Key.{keyFault}
-use Rattle.bencode.specs.Loop.{Step, next, done, after, repeat, Past, Onward}
+use Rattle.bencode.specs.Loop.{LoopStep, next, done, afterStep, repeat, Past, Onward}
 use Rattle.bencode.specs.Scalar.{scalarAt}
 use Rattle.bencode.specs.Walk.{onward, listStep, listFrom, entryStep, dictionaryStep, dictionaryFrom, valueAt}
 use Rattle.bencode.specs.Skip.{opens, landed, pastScalar, skipStep, skipFrom}
 use Rattle.octets.proofs.digits.NumeralLaws.{inside}
-use Rattle.bencode.proofs.sequences.LoopLaws.{repeat-step}
+use Rattle.bencode.proofs.loops.LoopLaws.{repeat-step}
 use Rattle.octets.proofs.sequences.Order.{clash}
 use Rattle.bencode.proofs.walking.Ends.{string-whole-inv, scalar-ends}
 
@@ -70,7 +70,7 @@ module _ (s : List ℕ) where
       go false p false q false r (Walk.End k) x e = let i = landed-on k depth to d e in let h = scalar-ends s at k x in omega arith
       go false p false q false r (Walk.Fault f) x e = let z : _≡_ {A = ℕ} 0 1 = cc in absurd (omega arith)
 
-  skip-step : (at depth : ℕ) → skipFrom s at depth ≡ after (skipStep s at depth) (λ to d. skipFrom s to d)
+  skip-step : (at depth : ℕ) → skipFrom s at depth ≡ afterStep (skipStep s at depth) (λ to d. skipFrom s to d)
   unfolding skipFrom
   skip-step at depth = repeat-step s (skipStep s) skip-onward (λ (k : ℕ). k) at depth
 
@@ -85,7 +85,7 @@ module _ (s : List ℕ) where
     skip-close b h = rw (skip-step at depth, b, landed-some (at + 1) (depth - 1) (omega arith)) refl
 
     module _ (o : opens (byteAt s at) ≡ false) (e : byteAt s at ≡ 101 → ⊥) where
-      skip-scalar-step : (w : Walk) → scalarAt s at ≡ w → skipFrom s at depth ≡ after (pastScalar at depth w) (λ to d. skipFrom s to d)
+      skip-scalar-step : (w : Walk) → scalarAt s at ≡ w → skipFrom s at depth ≡ afterStep (pastScalar at depth w) (λ to d. skipFrom s to d)
       skip-scalar-step w x = rw (skip-step at depth, o, ne-eqb (byteAt s at) 101 e, x) refl
 
       pub skip-fault : (f : Fault) → scalarAt s at ≡ Walk.Fault f → at ≡ skipFrom s at depth
@@ -116,7 +116,7 @@ module _ (s : List ℕ) where
   repeat-range from zero at depth l h = omega arith
   repeat-range from (suc n) at depth l h = go (skipStep s at depth) refl (λ to d p q. repeat-range from n to d p q)
     where
-      go : (t : Step ℕ ℕ) → skipStep s at depth ≡ t → ((to d : ℕ) → from ≤ to → to ≤ length s → (from ≤ repeat (skipStep s) from n to d) × (repeat (skipStep s) from n to d ≤ length s)) → (from ≤ after t (λ to d. repeat (skipStep s) from n to d)) × (after t (λ to d. repeat (skipStep s) from n to d) ≤ length s)
+      go : (t : LoopStep ℕ ℕ) → skipStep s at depth ≡ t → ((to d : ℕ) → from ≤ to → to ≤ length s → (from ≤ repeat (skipStep s) from n to d) × (repeat (skipStep s) from n to d ≤ length s)) → (from ≤ afterStep t (λ to d. repeat (skipStep s) from n to d)) × (afterStep t (λ to d. repeat (skipStep s) from n to d) ≤ length s)
       go (next to d) e rec = let o = skip-onward at depth to d e in rec to d (omega arith) (omega arith)
       go (done r) e rec = let o = skip-stops at depth r h e in omega arith
 
@@ -126,7 +126,7 @@ module _ (s : List ℕ) where
 
   -- ---- a walked value is skipped to its end
   abbrev pub Skips : (ℕ → Walk) → Type 0
-  Skips value = (at end : ℕ) → value at ≡ Walk.End end → (depth : ℕ) → skipFrom s at depth ≡ after (landed end depth) (λ to d. skipFrom s to d)
+  Skips value = (at end : ℕ) → value at ≡ Walk.End end → (depth : ℕ) → skipFrom s at depth ≡ afterStep (landed end depth) (λ to d. skipFrom s to d)
 
   scalar-skips : Skips (scalarAt s)
   scalar-skips at end e depth = let w = scalar-ends s at end e in skip-scalar-step at depth (not-opens (byteAt s at) (w .no-list) (w .no-dictionary)) (w .no-e) (Walk.End end) e
@@ -136,7 +136,7 @@ module _ (s : List ℕ) where
   inner value skips at end depth e = skips at end e (depth + 1) ∙ rw (landed-some end (depth + 1) (omega arith)) refl
 
   -- at its `e` skipping has one open less
-  outer : (at depth : ℕ) → byteAt s at ≡ 101 → skipFrom s at (depth + 1) ≡ after (landed (at + 1) depth) (λ to d. skipFrom s to d)
+  outer : (at depth : ℕ) → byteAt s at ≡ 101 → skipFrom s at (depth + 1) ≡ afterStep (landed (at + 1) depth) (λ to d. skipFrom s to d)
   outer at depth b = let k : depth + 1 - 1 ≡ depth = omega arith in rw (skip-step at (depth + 1), b, k) refl
 
   pub string-scalar : (at start end : ℕ) → stringAt s at ≡ Text.Bytes start end → scalarAt s at ≡ Walk.End end
@@ -144,52 +144,52 @@ module _ (s : List ℕ) where
   string-scalar at start end e = let w = string-whole-inv s at start end e in rw (ne-eqb (byteAt s at) 105 (omega arith), e) refl
 
   module _ (value : ℕ → Walk) (skips : Skips value) (f : Fault) where
-    pub list-skips : (n at end : ℕ) → repeat (listStep value s) (Walk.Fault f) n at tt ≡ Walk.End end → (depth : ℕ) → skipFrom s at (depth + 1) ≡ after (landed end depth) (λ to d. skipFrom s to d)
+    pub list-skips : (n at end : ℕ) → repeat (listStep value s) (Walk.Fault f) n at tt ≡ Walk.End end → (depth : ℕ) → skipFrom s at (depth + 1) ≡ afterStep (landed end depth) (λ to d. skipFrom s to d)
     unfolding repeat
     list-skips zero at end e depth = let z : _≡_ {A = ℕ} 0 1 = cc in absurd (omega arith)
     list-skips (suc n) at end e depth = go (eqb (byteAt s at) 101) refl (value at) refl e (λ to q. list-skips n to end q depth)
       where
-        go : (t : Bool) → eqb (byteAt s at) 101 ≡ t → (w : Walk) → value at ≡ w → after (cond t (done (Walk.End (at + 1))) (onward w tt)) (λ to y. repeat (listStep value s) (Walk.Fault f) n to y) ≡ Walk.End end
-            → ((to : ℕ) → repeat (listStep value s) (Walk.Fault f) n to tt ≡ Walk.End end → skipFrom s to (depth + 1) ≡ after (landed end depth) (λ to d. skipFrom s to d))
-            → skipFrom s at (depth + 1) ≡ after (landed end depth) (λ to d. skipFrom s to d)
+        go : (t : Bool) → eqb (byteAt s at) 101 ≡ t → (w : Walk) → value at ≡ w → afterStep (cond t (done (Walk.End (at + 1))) (onward w tt)) (λ to y. repeat (listStep value s) (Walk.Fault f) n to y) ≡ Walk.End end
+            → ((to : ℕ) → repeat (listStep value s) (Walk.Fault f) n to tt ≡ Walk.End end → skipFrom s to (depth + 1) ≡ afterStep (landed end depth) (λ to d. skipFrom s to d))
+            → skipFrom s at (depth + 1) ≡ afterStep (landed end depth) (λ to d. skipFrom s to d)
         go true p w x e rec = let i : at + 1 ≡ end = cc in rw (← i) (outer at depth (eqb-true (byteAt s at) 101 p))
         go false p (Walk.Fault g) x e rec = let z : _≡_ {A = ℕ} 0 1 = cc in absurd (omega arith)
         go false p (Walk.End k) x e rec = inner value skips at k depth x ∙ rec k e
 
     module _ (p : Profile) where
-      pub dictionary-skips : (n at : ℕ) (keys : List (List ℕ)) (end : ℕ) → repeat (dictionaryStep p value s) (Walk.Fault f) n at keys ≡ Walk.End end → (depth : ℕ) → skipFrom s at (depth + 1) ≡ after (landed end depth) (λ to d. skipFrom s to d)
+      pub dictionary-skips : (n at : ℕ) (keys : List (List ℕ)) (end : ℕ) → repeat (dictionaryStep p value s) (Walk.Fault f) n at keys ≡ Walk.End end → (depth : ℕ) → skipFrom s at (depth + 1) ≡ afterStep (landed end depth) (λ to d. skipFrom s to d)
       unfolding repeat
       dictionary-skips zero at keys end e depth = let z : _≡_ {A = ℕ} 0 1 = cc in absurd (omega arith)
       dictionary-skips (suc n) at keys end e depth = go (eqb (byteAt s at) 101) refl (stringAt s at) refl e (λ to ks q. dictionary-skips n to ks end q depth)
         where
-          keyed-skips : (number start k : ℕ) (ks : List (List ℕ)) → stringAt s at ≡ Text.Bytes start k → (t : Bool) (w : Walk) → value k ≡ w → after (cond t (onward w ks) (done (Walk.Fault (fault number at)))) (λ to y. repeat (dictionaryStep p value s) (Walk.Fault f) n to y) ≡ Walk.End end
-              → ((to : ℕ) (ks : List (List ℕ)) → repeat (dictionaryStep p value s) (Walk.Fault f) n to ks ≡ Walk.End end → skipFrom s to (depth + 1) ≡ after (landed end depth) (λ to d. skipFrom s to d))
-              → skipFrom s at (depth + 1) ≡ after (landed end depth) (λ to d. skipFrom s to d)
+          keyed-skips : (number start k : ℕ) (ks : List (List ℕ)) → stringAt s at ≡ Text.Bytes start k → (t : Bool) (w : Walk) → value k ≡ w → afterStep (cond t (onward w ks) (done (Walk.Fault (fault number at)))) (λ to y. repeat (dictionaryStep p value s) (Walk.Fault f) n to y) ≡ Walk.End end
+              → ((to : ℕ) (ks : List (List ℕ)) → repeat (dictionaryStep p value s) (Walk.Fault f) n to ks ≡ Walk.End end → skipFrom s to (depth + 1) ≡ afterStep (landed end depth) (λ to d. skipFrom s to d))
+              → skipFrom s at (depth + 1) ≡ afterStep (landed end depth) (λ to d. skipFrom s to d)
           keyed-skips number start k ks x false w y e rec = let z : _≡_ {A = ℕ} 0 1 = cc in absurd (omega arith)
           keyed-skips number start k ks x true (Walk.Fault g) y e rec = let z : _≡_ {A = ℕ} 0 1 = cc in absurd (omega arith)
           keyed-skips number start k ks x true (Walk.End m) y e rec = inner (scalarAt s) scalar-skips at k depth (string-scalar at start k x) ∙ inner value skips k m depth y ∙ rec m ks e
 
-          go : (t : Bool) → eqb (byteAt s at) 101 ≡ t → (w : Text) → stringAt s at ≡ w → after (cond t (done (Walk.End (at + 1))) (entryStep p value s at keys w)) (λ to y. repeat (dictionaryStep p value s) (Walk.Fault f) n to y) ≡ Walk.End end
-              → ((to : ℕ) (ks : List (List ℕ)) → repeat (dictionaryStep p value s) (Walk.Fault f) n to ks ≡ Walk.End end → skipFrom s to (depth + 1) ≡ after (landed end depth) (λ to d. skipFrom s to d))
-              → skipFrom s at (depth + 1) ≡ after (landed end depth) (λ to d. skipFrom s to d)
+          go : (t : Bool) → eqb (byteAt s at) 101 ≡ t → (w : Text) → stringAt s at ≡ w → afterStep (cond t (done (Walk.End (at + 1))) (entryStep p value s at keys w)) (λ to y. repeat (dictionaryStep p value s) (Walk.Fault f) n to y) ≡ Walk.End end
+              → ((to : ℕ) (ks : List (List ℕ)) → repeat (dictionaryStep p value s) (Walk.Fault f) n to ks ≡ Walk.End end → skipFrom s to (depth + 1) ≡ afterStep (landed end depth) (λ to d. skipFrom s to d))
+              → skipFrom s at (depth + 1) ≡ afterStep (landed end depth) (λ to d. skipFrom s to d)
           go true q w x e rec = let i : at + 1 ≡ end = cc in rw (← i) (outer at depth (eqb-true (byteAt s at) 101 q))
           go false q (Text.Fault g) x e rec = let z : _≡_ {A = ℕ} 0 1 = cc in absurd (omega arith)
-          go false q (Text.Bytes start k) x e rec = keyed-skips (keyFault p keys (part s start k)) start k (part s start k ∷ keys) x (eqb (keyFault p keys (part s start k)) 0) (value k) refl e rec
+          go false q (Text.Bytes start k) x e rec = keyed-skips (keyFault p keys (slice s start k)) start k (slice s start k ∷ keys) x (eqb (keyFault p keys (slice s start k)) 0) (value k) refl e rec
 
   pub value-skips : (p : Profile) (levels : ℕ) → Skips (valueAt p levels s)
   unfolding valueAt listFrom dictionaryFrom
   value-skips p zero at end e depth = go (eqb (byteAt s at) 108) (eqb (byteAt s at) 100) e
     where
-      go : (t u : Bool) → cond t (Walk.Fault (fault 7 at)) (cond u (Walk.Fault (fault 7 at)) (scalarAt s at)) ≡ Walk.End end → skipFrom s at depth ≡ after (landed end depth) (λ to d. skipFrom s to d)
+      go : (t u : Bool) → cond t (Walk.Fault (fault 7 at)) (cond u (Walk.Fault (fault 7 at)) (scalarAt s at)) ≡ Walk.End end → skipFrom s at depth ≡ afterStep (landed end depth) (λ to d. skipFrom s to d)
       go true u e = let z : _≡_ {A = ℕ} 0 1 = cc in absurd (omega arith)
       go false true e = let z : _≡_ {A = ℕ} 0 1 = cc in absurd (omega arith)
       go false false e = scalar-skips at end e depth
   value-skips p (suc levels) at end e depth = go (eqb (byteAt s at) 108) refl (eqb (byteAt s at) 100) refl (value-skips p levels) e
     where
-      in-list : Skips (valueAt p levels s) → (to : ℕ) → listFrom (valueAt p levels s) s to ≡ Walk.End end → skipFrom s to (depth + 1) ≡ after (landed end depth) (λ to d. skipFrom s to d)
+      in-list : Skips (valueAt p levels s) → (to : ℕ) → listFrom (valueAt p levels s) s to ≡ Walk.End end → skipFrom s to (depth + 1) ≡ afterStep (landed end depth) (λ to d. skipFrom s to d)
       in-list h to e = list-skips (valueAt p levels s) h (fault 5 to) (suc (length s - to)) to end e depth
 
-      go : (t : Bool) → eqb (byteAt s at) 108 ≡ t → (u : Bool) → eqb (byteAt s at) 100 ≡ u → Skips (valueAt p levels s) → cond t (listFrom (valueAt p levels s) s (at + 1)) (cond u (dictionaryFrom p (valueAt p levels s) s (at + 1) []) (scalarAt s at)) ≡ Walk.End end → skipFrom s at depth ≡ after (landed end depth) (λ to d. skipFrom s to d)
+      go : (t : Bool) → eqb (byteAt s at) 108 ≡ t → (u : Bool) → eqb (byteAt s at) 100 ≡ u → Skips (valueAt p levels s) → cond t (listFrom (valueAt p levels s) s (at + 1)) (cond u (dictionaryFrom p (valueAt p levels s) s (at + 1) []) (scalarAt s at)) ≡ Walk.End end → skipFrom s at depth ≡ afterStep (landed end depth) (λ to d. skipFrom s to d)
       go true b u c h e = sym (skip-open at depth (opens-list (byteAt s at) b)) ∙ in-list h (at + 1) e
       go false b true c h e = sym (skip-open at depth (opens-dictionary (byteAt s at) c)) ∙ dictionary-skips (valueAt p levels s) h (fault 5 (at + 1)) p (suc (length s - (at + 1))) (at + 1) [] end e depth
       go false b false c h e = scalar-skips at end e depth

@@ -10,7 +10,7 @@ use lib.Signed.{mag}
 use lib.ListN.{length}
 use Rattle.bencode.specs.declared.fault.Walk.{Walk}
 use Rattle.bencode.specs.declared.profile.Profile.{Profile}
-use Rattle.octets.specs.Bytes.{byteAt, part, Begins}
+use Rattle.octets.specs.Bytes.{byteAt, slice, Begins}
 use Rattle.bencode.specs.Key.{keyFault}
 use Rattle.bencode.specs.Scalar.{scalarAt}
 use Rattle.bencode.specs.Walk.{listFrom, dictionaryFrom, valueAt}
@@ -56,7 +56,7 @@ module _ (s : List ℕ) where
         let w = reads v m (m + length (encode v)) (formed .1) (begins-left s m e (encode v) (encodeEntries es ++ (101 ∷ [])) d) in
         let h = string-whole-inv s at (k .0) m (k .1) in
         let no-e : byteAt s at ≡ 101 → ⊥ = λ q. omega (arith, h .high) in
-        let allowed : keyFault p keys (part s (k .0) m) ≡ 0 = ap (λ (l : List ℕ). keyFault p keys l) (k .2) ∙ formed .0 in
+        let allowed : keyFault p keys (slice s (k .0) m) ≡ 0 = ap (λ (l : List ℕ). keyFault p keys l) (k .2) ∙ formed .0 in
         sym (dictionary-more p levels s at keys no-e (k .0) m (k .1) allowed (m + length (encode v)) w)
         ∙ ap (λ (l : List ℕ). dictionaryFrom p (valueAt p levels s) s (m + length (encode v)) (l ∷ keys)) (k .2)
         ∙ dictionary-reads es (m + length (encode v)) e (key ∷ keys) (formed .2) (begins-right s m e (encode v) (encodeEntries es ++ (101 ∷ [])) d)

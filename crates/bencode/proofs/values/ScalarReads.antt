@@ -14,7 +14,7 @@ use lib.ListN.{length, getD}
 use lib.Seq.{getD-drop}
 use Rattle.bencode.specs.declared.strings.Text.{Text}
 use Rattle.bencode.specs.declared.integers.Number.{Number}
-use Rattle.octets.specs.Bytes.{byteAt, part, Begins}
+use Rattle.octets.specs.Bytes.{byteAt, slice, Begins}
 use Rattle.octets.specs.Numerals.{isDigit, digits, numeralAt, decimal}
 use Rattle.bencode.specs.Strings.{stringAt}
 use Rattle.bencode.specs.Integers.{integerFrom, integerAt, signed}
@@ -52,7 +52,7 @@ module _ (s : List ℕ) where
   unfolding stringAt
   string-of at m n e num some colon fits = rw (num, ne-eqb m at some, eq-eqb (byteAt s m) 58 colon, le-leb n (length s - (m + 1)) fits) refl
 
-  pub string-reads : (at e : ℕ) (text : List ℕ) → Begins s at (encodeString text) e → (start : ℕ) × (stringAt s at ≡ Text.Bytes start e) × (part s start e ≡ text) × (start + length text ≡ e)
+  pub string-reads : (at e : ℕ) (text : List ℕ) → Begins s at (encodeString text) e → (start : ℕ) × (stringAt s at ≡ Text.Bytes start e) × (slice s start e ≡ text) × (start + length text ≡ e)
   string-reads at e text b =
       let m = at + length (decimal (length text)) in
       let l = begins-left s at e (decimal (length text)) (58 ∷ text) b in

@@ -18,12 +18,12 @@ use Rattle.bencode.specs.declared.strings.Text.{Text}
 use Rattle.bencode.specs.declared.integers.Number.{Number}
 use Rattle.bencode.specs.declared.fault.Walk.{Walk}
 use Rattle.bencode.specs.declared.profile.Profile.{Profile}
-use Rattle.octets.specs.Bytes.{byteAt, part, Begins}
+use Rattle.octets.specs.Bytes.{byteAt, slice, Begins}
 use Rattle.octets.specs.Numerals.{isDigit, digits, numeralAt, decimal}
 use Rattle.bencode.specs.Fault.{fault}
 use Rattle.bencode.specs.Strings.{stringAt, textEnd}
 use Rattle.bencode.specs.Integers.{integerAt, numberEnd}
-use Rattle.bencode.specs.Loop.{done, after, repeat}
+use Rattle.bencode.specs.Loop.{done, afterStep, repeat}
 use Rattle.bencode.specs.Key.{keyFault}
 use Rattle.bencode.specs.Scalar.{scalarAt}
 use Rattle.bencode.specs.Walk.{onward, listStep, listFrom, entryStep, dictionaryStep, dictionaryFrom, valueAt}
@@ -65,13 +65,13 @@ module _ (s : List ℕ) where
       go (no h) = nonzero h
 
   -- ---- strings and integers
-  string-begins : (at start end : ℕ) → stringAt s at ≡ Text.Bytes start end → Begins s at (encodeString (part s start end)) end
+  string-begins : (at start end : ℕ) → stringAt s at ≡ Text.Bytes start end → Begins s at (encodeString (slice s start end)) end
   string-begins at start end e =
       let w = string-whole-inv s at start end e in
-      let n : numeralAt s at .number ≡ length (part s start end) = omega (arith, w .number, w .ordered, w .within, length-take-le (end - start) (drop start s) (omega (arith, length-drop start s, w .within))) in
-      begins-join s at (numeralAt s at .end) end (decimal (length (part s start end))) (58 ∷ part s start end)
+      let n : numeralAt s at .number ≡ length (slice s start end) = omega (arith, w .number, w .ordered, w .within, length-take-le (end - start) (drop start s) (omega (arith, length-drop start s, w .within))) in
+      begins-join s at (numeralAt s at .end) end (decimal (length (slice s start end))) (58 ∷ slice s start end)
       (subst (λ (k : ℕ). Begins s at (decimal k) (numeralAt s at .end)) n (numeral-begins at (w .some)))
-      (begins-join s (numeralAt s at .end) start end (58 ∷ []) (part s start end)
+      (begins-join s (numeralAt s at .end) start end (58 ∷ []) (slice s start end)
       (subst (λ (k : ℕ). Begins s (numeralAt s at .end) (58 ∷ []) k) (w .numeral-end) (begins-byte s (numeralAt s at .end) 58 (w .colon) (omega arith)))
       (begins-part s start end (w .ordered) (w .within)))
 
@@ -116,7 +116,7 @@ module _ (s : List ℕ) where
     list-sound zero at end e = let z : _≡_ {A = ℕ} 0 1 = cc in absurd (omega arith)
     list-sound (suc n) at end e = go (eqb (byteAt s at) 101) refl (walk at) refl e (λ to q. list-sound n to end q)
       where
-        go : (t : Bool) → eqb (byteAt s at) 101 ≡ t → (w : Walk) → walk at ≡ w → after (cond t (done (Walk.End (at + 1))) (onward w tt)) (λ to y. repeat (listStep walk s) (Walk.Fault f) n to y) ≡ Walk.End end → ((to : ℕ) → repeat (listStep walk s) (Walk.Fault f) n to tt ≡ Walk.End end → ListStands to end) → ListStands at end
+        go : (t : Bool) → eqb (byteAt s at) 101 ≡ t → (w : Walk) → walk at ≡ w → afterStep (cond t (done (Walk.End (at + 1))) (onward w tt)) (λ to y. repeat (listStep walk s) (Walk.Fault f) n to y) ≡ Walk.End end → ((to : ℕ) → repeat (listStep walk s) (Walk.Fault f) n to tt ≡ Walk.End end → ListStands to end) → ListStands at end
         go true p w x e rec = let i : at + 1 ≡ end = cc in (no-value, tt, subst (λ (k : ℕ). Begins s at (101 ∷ []) k) i (begins-byte s at 101 (eqb-true (byteAt s at) 101 p) (omega arith)))
         go false p (Walk.Fault g) x e rec = let z : _≡_ {A = ℕ} 0 1 = cc in absurd (omega arith)
         go false p (Walk.End k) x e rec =
@@ -133,25 +133,25 @@ module _ (s : List ℕ) where
       dictionary-sound zero at keys end e = let z : _≡_ {A = ℕ} 0 1 = cc in absurd (omega arith)
       dictionary-sound (suc n) at keys end e = go (eqb (byteAt s at) 101) refl (stringAt s at) refl e (λ to ks q. dictionary-sound n to ks end q)
         where
-          keyed-sound : (start k : ℕ) → stringAt s at ≡ Text.Bytes start k → (number : ℕ) → keyFault p keys (part s start k) ≡ number → (t : Bool) → eqb number 0 ≡ t → (w : Walk) → walk k ≡ w → after (cond t (onward w (part s start k ∷ keys)) (done (Walk.Fault (fault number at)))) (λ to y. repeat (dictionaryStep p walk s) (Walk.Fault f) n to y) ≡ Walk.End end
+          keyed-sound : (start k : ℕ) → stringAt s at ≡ Text.Bytes start k → (number : ℕ) → keyFault p keys (slice s start k) ≡ number → (t : Bool) → eqb number 0 ≡ t → (w : Walk) → walk k ≡ w → afterStep (cond t (onward w (slice s start k ∷ keys)) (done (Walk.Fault (fault number at)))) (λ to y. repeat (dictionaryStep p walk s) (Walk.Fault f) n to y) ≡ Walk.End end
               → ((to : ℕ) (ks : List (List ℕ)) → repeat (dictionaryStep p walk s) (Walk.Fault f) n to ks ≡ Walk.End end → DictionaryStands ks to end) → DictionaryStands keys at end
           keyed-sound start k x number q false r w y e rec = let z : _≡_ {A = ℕ} 0 1 = cc in absurd (omega arith)
           keyed-sound start k x number q true r (Walk.Fault g) y e rec = let z : _≡_ {A = ℕ} 0 1 = cc in absurd (omega arith)
           keyed-sound start k x number q true r (Walk.End m) y e rec =
               let v = each k m y in
-              let es = rec m (part s start k ∷ keys) e in (
-                entry (part s start k) (v .0) (es .0),
+              let es = rec m (slice s start k ∷ keys) e in (
+                entry (slice s start k) (v .0) (es .0),
                 (q ∙ eqb-true number 0 r, v .1, es .1),
-                rw (append-assoc (encodeString (part s start k)) (encode (v .0) ++ encodeEntries (es .0)) (101 ∷ []), append-assoc (encode (v .0)) (encodeEntries (es .0)) (101 ∷ []))
-                    (begins-join s at k end (encodeString (part s start k)) (encode (v .0) ++ (encodeEntries (es .0) ++ (101 ∷ []))) (string-begins at start k x)
+                rw (append-assoc (encodeString (slice s start k)) (encode (v .0) ++ encodeEntries (es .0)) (101 ∷ []), append-assoc (encode (v .0)) (encodeEntries (es .0)) (101 ∷ []))
+                    (begins-join s at k end (encodeString (slice s start k)) (encode (v .0) ++ (encodeEntries (es .0) ++ (101 ∷ []))) (string-begins at start k x)
                     (begins-join s k m end (encode (v .0)) (encodeEntries (es .0) ++ (101 ∷ [])) (v .2) (es .2))),
               )
 
-          go : (t : Bool) → eqb (byteAt s at) 101 ≡ t → (w : Text) → stringAt s at ≡ w → after (cond t (done (Walk.End (at + 1))) (entryStep p walk s at keys w)) (λ to y. repeat (dictionaryStep p walk s) (Walk.Fault f) n to y) ≡ Walk.End end
+          go : (t : Bool) → eqb (byteAt s at) 101 ≡ t → (w : Text) → stringAt s at ≡ w → afterStep (cond t (done (Walk.End (at + 1))) (entryStep p walk s at keys w)) (λ to y. repeat (dictionaryStep p walk s) (Walk.Fault f) n to y) ≡ Walk.End end
               → ((to : ℕ) (ks : List (List ℕ)) → repeat (dictionaryStep p walk s) (Walk.Fault f) n to ks ≡ Walk.End end → DictionaryStands ks to end) → DictionaryStands keys at end
           go true q w x e rec = let i : at + 1 ≡ end = cc in (no-entry, tt, subst (λ (k : ℕ). Begins s at (101 ∷ []) k) i (begins-byte s at 101 (eqb-true (byteAt s at) 101 q) (omega arith)))
           go false q (Text.Fault g) x e rec = let z : _≡_ {A = ℕ} 0 1 = cc in absurd (omega arith)
-          go false q (Text.Bytes start k) x e rec = keyed-sound start k x (keyFault p keys (part s start k)) refl (eqb (keyFault p keys (part s start k)) 0) refl (walk k) refl e rec
+          go false q (Text.Bytes start k) x e rec = keyed-sound start k x (keyFault p keys (slice s start k)) refl (eqb (keyFault p keys (slice s start k)) 0) refl (walk k) refl e rec
 
   scalar-sound : (formed : Value → Type 0) → ((z : ℤ) → mag z < 2 ^ 63 → formed (integer z)) → ((x : List ℕ) → formed (string x)) → (at end : ℕ) → scalarAt s at ≡ Walk.End end → Stands formed at end
   unfolding scalarAt encode
@@ -161,7 +161,7 @@ module _ (s : List ℕ) where
       go true (Number.Fault f) q w r e = let z : _≡_ {A = ℕ} 0 1 = cc in absurd (omega arith)
       go true (Number.Integer z k) q w r e = let j : k ≡ end = cc in let h = integer-begins at z k q in (integer z, i z (h .0), subst (λ (m : ℕ). Begins s at (105 ∷ (signedDecimal z ++ (101 ∷ []))) m) j (h .1))
       go false n q (Text.Fault f) r e = let z : _≡_ {A = ℕ} 0 1 = cc in absurd (omega arith)
-      go false n q (Text.Bytes start k) r e = let j : k ≡ end = cc in (string (part s start k), x (part s start k), subst (λ (m : ℕ). Begins s at (encodeString (part s start k)) m) j (string-begins at start k r))
+      go false n q (Text.Bytes start k) r e = let j : k ≡ end = cc in (string (slice s start k), x (slice s start k), subst (λ (m : ℕ). Begins s at (encodeString (slice s start k)) m) j (string-begins at start k r))
 
   pub value-sound : (p : Profile) (levels : ℕ) (at end : ℕ) → valueAt p levels s at ≡ Walk.End end → Stands (WellFormed p levels) at end
   unfolding valueAt listFrom dictionaryFrom encode

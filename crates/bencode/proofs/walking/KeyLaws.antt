@@ -14,7 +14,7 @@ use Rattle.bencode.specs.declared.strings.Text.{Text}
 use Rattle.bencode.specs.declared.fault.Walk.{Walk}
 use Rattle.bencode.specs.declared.profile.Profile.{Profile}
 use Rattle.bencode.specs.Strings.{stringAt}
-use Rattle.octets.specs.Bytes.{part, same, less}
+use Rattle.octets.specs.Bytes.{slice, same, less}
 use Rattle.bencode.specs.Key.{isUsed, isAbove, orderFault, keyFault}
 use Rattle.bencode.specs.Walk.{valueAt}
 use Rattle.bencode.specs.Skip.{skipValue}
@@ -31,7 +31,7 @@ use Rattle.bencode.proofs.lookup.EntryLaws.{find-here, find-more}
 -- the keys of the entries from an offset up to another, the latest first, where `value` walks a value
 pub data Earlier (value : ℕ → Walk) (s : List ℕ) (first : ℕ) : ℕ → List (List ℕ) → Type 0 where
   none : Earlier value s first first []
-  more : {at start end to : ℕ} {keys : List (List ℕ)} → Earlier value s first at keys → stringAt s at ≡ Text.Bytes start end → value end ≡ Walk.End to → Earlier value s first to (part s start end ∷ keys)
+  more : {at start end to : ℕ} {keys : List (List ℕ)} → Earlier value s first at keys → stringAt s at ≡ Text.Bytes start end → value end ≡ Walk.End to → Earlier value s first to (slice s start end ∷ keys)
 
 -- an entry ends after where it starts
 entry-past : (p : Profile) (levels : ℕ) (s : List ℕ) (at start end to : ℕ) → stringAt s at ≡ Text.Bytes start end → valueAt p levels s end ≡ Walk.End to → Past s at to
@@ -46,7 +46,7 @@ module _ (p : Profile) (levels : ℕ) (s : List ℕ) (first : ℕ) (key : List �
   find-passed : (at : ℕ) (keys : List (List ℕ)) → Earlier (valueAt p levels s) s first at keys → Passed s key first at (isUsed key keys)
   unfolding isUsed
   find-passed at keys none = refl
-  find-passed at keys (more {at = k} {start = start} {end = end} {keys = ks} c x v) = go (isUsed key ks) (find-passed k ks c) (same (part s start end) key) refl
+  find-passed at keys (more {at = k} {start = start} {end = end} {keys = ks} c x v) = go (isUsed key ks) (find-passed k ks c) (same (slice s start end) key) refl
     where
       skipped : skipValue s end ≡ at
       skipped = value-skips s p levels end at v 0
@@ -54,29 +54,29 @@ module _ (p : Profile) (levels : ℕ) (s : List ℕ) (first : ℕ) (key : List �
       past : (k < end) × (end < at)
       past = let w = string-whole-inv s k start end x in omega (arith, value-ends p levels s end at v)
 
-      go : (u : Bool) → Passed s key first k u → (t : Bool) → same (part s start end) key ≡ t → Passed s key first at (t || u)
+      go : (u : Bool) → Passed s key first k u → (t : Bool) → same (slice s start end) key ≡ t → Passed s key first at (t || u)
       go true (j, l, e) true q = (j, omega (arith, past), e)
       go true (j, l, e) false q = (j, omega (arith, past), e)
       go false e true q = (end, omega (arith, past), e ∙ sym (find-here s key k start end x q))
       go false e false q = e ∙ sym (find-more s key k start end x q) ∙ ap (λ (j : ℕ). entryAt s key j) skipped
 
 -- the search finds the key at an offset itself, unless an earlier one is equal
-used-agrees : (p : Profile) (levels : ℕ) (s : List ℕ) (first at : ℕ) (keys : List (List ℕ)) → Earlier (valueAt p levels s) s first at keys → (start end : ℕ) → stringAt s at ≡ Text.Bytes start end → usedAt s first (part s start end) end ≡ isUsed (part s start end) keys
+used-agrees : (p : Profile) (levels : ℕ) (s : List ℕ) (first at : ℕ) (keys : List (List ℕ)) → Earlier (valueAt p levels s) s first at keys → (start end : ℕ) → stringAt s at ≡ Text.Bytes start end → usedAt s first (slice s start end) end ≡ isUsed (slice s start end) keys
 unfolding usedAt
-used-agrees p levels s first at keys c start end x = go (isUsed (part s start end) keys) (find-passed p levels s first (part s start end) at keys c)
+used-agrees p levels s first at keys c start end x = go (isUsed (slice s start end) keys) (find-passed p levels s first (slice s start end) at keys c)
   where
     past : at < end
     past = let w = string-whole-inv s at start end x in omega arith
 
-    go : (t : Bool) → Passed s (part s start end) first at t → foundBefore end (entryAt s (part s start end) first) ≡ t
+    go : (t : Bool) → Passed s (slice s start end) first at t → foundBefore end (entryAt s (slice s start end) first) ≡ t
     go true (v, l, e) = rw (e, lt-ltb v end (omega (arith, past))) refl
-    go false e = rw (e, ← find-here s (part s start end) at start end x (same-refl (part s start end)), le-ltb end end (omega arith)) refl
+    go false e = rw (e, ← find-here s (slice s start end) at start end x (same-refl (slice s start end)), le-ltb end end (omega arith)) refl
 
 -- ---- what a dictionary's walk keeps of its keys
 -- the key at an offset is one of the keys, and none is above it; or there are no keys
 pub data Top (s : List ℕ) (greatest : ℕ) (keys : List (List ℕ)) : Type 0 where
   empty : keys ≡ [] → Top s greatest keys
-  top : (start end : ℕ) → stringAt s greatest ≡ Text.Bytes start end → isUsed (part s start end) keys ≡ true → Under (part s start end) keys → Top s greatest keys
+  top : (start end : ℕ) → stringAt s greatest ≡ Text.Bytes start end → isUsed (slice s start end) keys ≡ true → Under (slice s start end) keys → Top s greatest keys
 
 pub record Kept (value : ℕ → Walk) (s : List ℕ) (k : Seen) (at : ℕ) (keys : List (List ℕ)) : Type 0 where
   pub earlier : Earlier value s (k .first) at keys
@@ -96,54 +96,54 @@ module _ (p : Profile) (levels : ℕ) (s : List ℕ) (k : Seen) (at : ℕ) (keys
     where
       by-top : (keys : List (List ℕ)) → (keys ≡ [] → ⊥) → Top s (k .greatest) keys → aboveText s key (stringAt s (k .greatest)) ≡ isAbove key keys
       by-top keys h (empty e) = absurd (h e)
-      by-top keys h (top start end x u v) = rw x (go (less (part s start end) key) refl)
+      by-top keys h (top start end x u v) = rw x (go (less (slice s start end) key) refl)
         where
-          go : (t : Bool) → less (part s start end) key ≡ t → t ≡ isAbove key keys
-          go true q = sym (above-all (part s start end) key keys v q)
-          go false q = sym (not-above (part s start end) key keys u q)
+          go : (t : Bool) → less (slice s start end) key ≡ t → t ≡ isAbove key keys
+          go true q = sym (above-all (slice s start end) key keys v q)
+          go false q = sym (not-above (slice s start end) key keys u q)
 
       by-keys : (first at : ℕ) (keys : List (List ℕ)) → Earlier (valueAt p levels s) s first at keys → Top s (k .greatest) keys → cond (leb at first) true (aboveText s key (stringAt s (k .greatest))) ≡ isAbove key keys
       by-keys first at keys none t = rw (le-leb first first (omega arith)) refl
       by-keys first at keys (more {at = j} {start = start} {end = end} {keys = ks} c x v) t =
           rw (lt-leb at first (omega (arith, earlier-forward p levels s first j ks c, entry-past p levels s j start end at x v)))
-          (by-top (part s start end ∷ ks) (λ e. let z : _≡_ {A = ℕ} 0 1 = cc in omega arith) t)
+          (by-top (slice s start end ∷ ks) (λ e. let z : _≡_ {A = ℕ} 0 1 = cc in omega arith) t)
 
   module _ (start end : ℕ) (text : stringAt s at ≡ Text.Bytes start end) where
     -- what is kept after a key that is allowed
-    kept-above : isAbove (part s start end) keys ≡ true → (to : ℕ) → valueAt p levels s end ≡ Walk.End to → Kept (valueAt p levels s) s (record { first = k .first; greatest = at }) to (part s start end ∷ keys)
-    kept-above h to v = record { earlier = more (kept .earlier) text v; highest = top start end text (used-head (part s start end) keys) (less-irrefl (part s start end), under-above (part s start end) keys h) }
+    kept-above : isAbove (slice s start end) keys ≡ true → (to : ℕ) → valueAt p levels s end ≡ Walk.End to → Kept (valueAt p levels s) s (record { first = k .first; greatest = at }) to (slice s start end ∷ keys)
+    kept-above h to v = record { earlier = more (kept .earlier) text v; highest = top start end text (used-head (slice s start end) keys) (less-irrefl (slice s start end), under-above (slice s start end) keys h) }
 
-    kept-below : isAbove (part s start end) keys ≡ false → (to : ℕ) → valueAt p levels s end ≡ Walk.End to → Kept (valueAt p levels s) s k to (part s start end ∷ keys)
+    kept-below : isAbove (slice s start end) keys ≡ false → (to : ℕ) → valueAt p levels s end ≡ Walk.End to → Kept (valueAt p levels s) s k to (slice s start end ∷ keys)
     kept-below h to v = record { earlier = more (kept .earlier) text v; highest = go keys h (kept .highest) }
       where
-        go : (keys : List (List ℕ)) → isAbove (part s start end) keys ≡ false → Top s (k .greatest) keys → Top s (k .greatest) (part s start end ∷ keys)
-        go keys h (empty e) = clash (isAbove (part s start end) keys) (rw e (unfold isAbove in refl)) h
-        go keys h (top a b x u v) = top a b x (used-tail (part s a b) (part s start end) keys u) (under (less (part s a b) (part s start end)) refl, v)
+        go : (keys : List (List ℕ)) → isAbove (slice s start end) keys ≡ false → Top s (k .greatest) keys → Top s (k .greatest) (slice s start end ∷ keys)
+        go keys h (empty e) = clash (isAbove (slice s start end) keys) (rw e (unfold isAbove in refl)) h
+        go keys h (top a b x u v) = top a b x (used-tail (slice s a b) (slice s start end) keys u) (under (less (slice s a b) (slice s start end)) refl, v)
           where
-            under : (t : Bool) → less (part s a b) (part s start end) ≡ t → t ≡ false
-            under true q = clash (isAbove (part s start end) keys) (above-all (part s a b) (part s start end) keys v q) h
+            under : (t : Bool) → less (slice s a b) (slice s start end) ≡ t → t ≡ false
+            under true q = clash (isAbove (slice s start end) keys) (above-all (slice s a b) (slice s start end) keys v q) h
             under false q = refl
 
-    pub key-allowed : (seen : Seen) → keyAt p s k at (part s start end) end ≡ KeyCheck.Allowed seen → (keyFault p keys (part s start end) ≡ 0) × ((to : ℕ) → valueAt p levels s end ≡ Walk.End to → Kept (valueAt p levels s) s seen to (part s start end ∷ keys))
+    pub key-allowed : (seen : Seen) → keyAt p s k at (slice s start end) end ≡ KeyCheck.Allowed seen → (keyFault p keys (slice s start end) ≡ 0) × ((to : ℕ) → valueAt p levels s end ≡ Walk.End to → Kept (valueAt p levels s) s seen to (slice s start end ∷ keys))
     unfolding keyAt keyFault
     key-allowed seen e =
-        go (isAbove (part s start end) keys) refl (isUsed (part s start end) keys) refl p
-        (rw (above-agrees (part s start end), used-agrees p levels s (k .first) at keys (kept .earlier) start end text) at e)
+        go (isAbove (slice s start end) keys) refl (isUsed (slice s start end) keys) refl p
+        (rw (above-agrees (slice s start end), used-agrees p levels s (k .first) at keys (kept .earlier) start end text) at e)
       where
-        go : (t : Bool) → isAbove (part s start end) keys ≡ t → (u : Bool) → isUsed (part s start end) keys ≡ u → (q : Profile) → cond t (KeyCheck.Allowed (record { first = k .first; greatest = at })) (cond u (KeyCheck.Refused 8) (unsorted q k)) ≡ KeyCheck.Allowed seen
-            → (cond u 8 (orderFault q t) ≡ 0) × ((to : ℕ) → valueAt p levels s end ≡ Walk.End to → Kept (valueAt p levels s) s seen to (part s start end ∷ keys))
-        go true h true c q e = clash (isUsed (part s start end) keys) c (above-unused (part s start end) keys h)
-        go true h false c Profile.Loose e = let n : record { first = k .first; greatest = at } ≡ seen = cc in (refl, λ to v. subst (λ (x : Seen). Kept (valueAt p levels s) s x to (part s start end ∷ keys)) n (kept-above h to v))
-        go true h false c Profile.Strict e = let n : record { first = k .first; greatest = at } ≡ seen = cc in (refl, λ to v. subst (λ (x : Seen). Kept (valueAt p levels s) s x to (part s start end ∷ keys)) n (kept-above h to v))
+        go : (t : Bool) → isAbove (slice s start end) keys ≡ t → (u : Bool) → isUsed (slice s start end) keys ≡ u → (q : Profile) → cond t (KeyCheck.Allowed (record { first = k .first; greatest = at })) (cond u (KeyCheck.Refused 8) (unsorted q k)) ≡ KeyCheck.Allowed seen
+            → (cond u 8 (orderFault q t) ≡ 0) × ((to : ℕ) → valueAt p levels s end ≡ Walk.End to → Kept (valueAt p levels s) s seen to (slice s start end ∷ keys))
+        go true h true c q e = clash (isUsed (slice s start end) keys) c (above-unused (slice s start end) keys h)
+        go true h false c Profile.Loose e = let n : record { first = k .first; greatest = at } ≡ seen = cc in (refl, λ to v. subst (λ (x : Seen). Kept (valueAt p levels s) s x to (slice s start end ∷ keys)) n (kept-above h to v))
+        go true h false c Profile.Strict e = let n : record { first = k .first; greatest = at } ≡ seen = cc in (refl, λ to v. subst (λ (x : Seen). Kept (valueAt p levels s) s x to (slice s start end ∷ keys)) n (kept-above h to v))
         go false h true c q e = let z : _≡_ {A = ℕ} 0 1 = cc in absurd (omega arith)
         go false h false c Profile.Strict e = let z : _≡_ {A = ℕ} 0 1 = cc in absurd (omega arith)
-        go false h false c Profile.Loose e = let n : k ≡ seen = cc in (refl, λ to v. subst (λ (x : Seen). Kept (valueAt p levels s) s x to (part s start end ∷ keys)) n (kept-below h to v))
+        go false h false c Profile.Loose e = let n : k ≡ seen = cc in (refl, λ to v. subst (λ (x : Seen). Kept (valueAt p levels s) s x to (slice s start end ∷ keys)) n (kept-below h to v))
 
-    pub key-refused : (code : ℕ) → keyAt p s k at (part s start end) end ≡ KeyCheck.Refused code → (keyFault p keys (part s start end) ≡ code) × (code ≡ 0 → ⊥)
+    pub key-refused : (code : ℕ) → keyAt p s k at (slice s start end) end ≡ KeyCheck.Refused code → (keyFault p keys (slice s start end) ≡ code) × (code ≡ 0 → ⊥)
     unfolding keyAt keyFault
     key-refused code e =
-        go (isAbove (part s start end) keys) (isUsed (part s start end) keys) p
-        (rw (above-agrees (part s start end), used-agrees p levels s (k .first) at keys (kept .earlier) start end text) at e)
+        go (isAbove (slice s start end) keys) (isUsed (slice s start end) keys) p
+        (rw (above-agrees (slice s start end), used-agrees p levels s (k .first) at keys (kept .earlier) start end text) at e)
       where
         go : (t u : Bool) (q : Profile) → cond t (KeyCheck.Allowed (record { first = k .first; greatest = at })) (cond u (KeyCheck.Refused 8) (unsorted q k)) ≡ KeyCheck.Refused code → (cond u 8 (orderFault q t) ≡ code) × (code ≡ 0 → ⊥)
         go true u q e = let z : _≡_ {A = ℕ} 0 1 = cc in absurd (omega arith)

@@ -12,15 +12,15 @@ use Rattle.bencode.specs.declared.fault.Fault.{Fault}
 use Rattle.bencode.specs.declared.strings.Text.{Text}
 use Rattle.bencode.specs.declared.fault.Walk.{Walk}
 use Rattle.bencode.specs.declared.profile.Profile.{Profile}
-use Rattle.octets.specs.Bytes.{byteAt, part}
+use Rattle.octets.specs.Bytes.{byteAt, slice}
 use Rattle.bencode.specs.Fault.{fault}
 use Rattle.bencode.specs.Strings.{stringAt}
-use Rattle.bencode.specs.Loop.{next, done, after, Past, Onward}
+use Rattle.bencode.specs.Loop.{next, done, afterStep, Past, Onward}
 use Rattle.bencode.specs.Key.{keyFault}
 use Rattle.bencode.specs.Scalar.{scalarAt}
 use Rattle.bencode.specs.Walk.{onward, listStep, listFrom, entryStep, dictionaryStep, dictionaryFrom, valueAt, listAt, dictionaryAt}
 use Rattle.octets.proofs.digits.NumeralLaws.{inside}
-use Rattle.bencode.proofs.sequences.LoopLaws.{repeat-step, repeat-end}
+use Rattle.bencode.proofs.loops.LoopLaws.{repeat-step, repeat-end}
 use Rattle.bencode.proofs.walking.Ends.{string-whole-inv, scalar-ends}
 
 -- a walker of values ends after where it starts
@@ -53,7 +53,7 @@ module _ (s : List ℕ) (value : ℕ → Walk) (ends : Ends s value) where
   unfolding listFrom
   list-ends at end e = repeat-end s (listStep value s) list-onward list-stops (fault 5 at) (suc (length s - at)) at tt end e
 
-  list-step : (at : ℕ) → listFrom value s at ≡ after (listStep value s at tt) (λ to y. listFrom value s to)
+  list-step : (at : ℕ) → listFrom value s at ≡ afterStep (listStep value s at tt) (λ to y. listFrom value s to)
   unfolding listFrom
   list-step at = repeat-step s (listStep value s) list-onward (λ (k : ℕ). Walk.Fault (fault 5 k)) at tt
 
@@ -80,7 +80,7 @@ module _ (s : List ℕ) (value : ℕ → Walk) (ends : Ends s value) where
         go false (Text.Fault f) q e = let z : _≡_ {A = ℕ} 0 1 = cc in absurd (omega arith)
         go false (Text.Bytes start end) q e =
             let w = string-whole-inv s at start end q in
-            keyed-on _ end (part s start end ∷ x) (omega arith) (eqb (keyFault p x (part s start end)) 0) (value end) refl e
+            keyed-on _ end (slice s start end ∷ x) (omega arith) (eqb (keyFault p x (slice s start end)) 0) (value end) refl e
 
     dictionary-stops : (at : ℕ) (x : List (List ℕ)) (end : ℕ) → dictionaryStep p value s at x ≡ done (Walk.End end) → Past s at end
     dictionary-stops at x end e = go (eqb (byteAt s at) 101) refl (stringAt s at) e
@@ -93,13 +93,13 @@ module _ (s : List ℕ) (value : ℕ → Walk) (ends : Ends s value) where
         go : (t : Bool) → eqb (byteAt s at) 101 ≡ t → (w : Text) → cond t (done (Walk.End (at + 1))) (entryStep p value s at x w) ≡ done (Walk.End end) → Past s at end
         go true q w e = letter-e s at end (eqb-true (byteAt s at) 101 q) (cc)
         go false q (Text.Fault f) e = let z : _≡_ {A = ℕ} 0 1 = cc in absurd (omega arith)
-        go false q (Text.Bytes start k) e = keyed-done _ (part s start k ∷ x) (eqb (keyFault p x (part s start k)) 0) (value k) e
+        go false q (Text.Bytes start k) e = keyed-done _ (slice s start k ∷ x) (eqb (keyFault p x (slice s start k)) 0) (value k) e
 
     dictionary-ends : (keys : List (List ℕ)) → Ends s (λ at. dictionaryFrom p value s at keys)
     unfolding dictionaryFrom
     dictionary-ends keys at end e = repeat-end s (dictionaryStep p value s) dictionary-onward dictionary-stops (fault 5 at) (suc (length s - at)) at keys end e
 
-    dictionary-step : (at : ℕ) (keys : List (List ℕ)) → dictionaryFrom p value s at keys ≡ after (dictionaryStep p value s at keys) (λ to y. dictionaryFrom p value s to y)
+    dictionary-step : (at : ℕ) (keys : List (List ℕ)) → dictionaryFrom p value s at keys ≡ afterStep (dictionaryStep p value s at keys) (λ to y. dictionaryFrom p value s to y)
     unfolding dictionaryFrom
     dictionary-step at keys = repeat-step s (dictionaryStep p value s) dictionary-onward (λ (k : ℕ). Walk.Fault (fault 5 k)) at keys
 
@@ -111,13 +111,13 @@ module _ (s : List ℕ) (value : ℕ → Walk) (ends : Ends s value) where
       any-dictionary-no-key f e = rw (dictionary-step at keys, ne-eqb (byteAt s at) 101 b, e) refl
 
       module _ (start end : ℕ) (key : stringAt s at ≡ Text.Bytes start end) where
-        pub any-dictionary-refused : (code : ℕ) → code ≡ keyFault p keys (part s start end) → (code ≡ 0 → ⊥) → Walk.Fault (fault code at) ≡ dictionaryFrom p value s at keys
+        pub any-dictionary-refused : (code : ℕ) → code ≡ keyFault p keys (slice s start end) → (code ≡ 0 → ⊥) → Walk.Fault (fault code at) ≡ dictionaryFrom p value s at keys
         any-dictionary-refused code k h = rw (dictionary-step at keys, ne-eqb (byteAt s at) 101 b, key, ← k, ne-eqb code 0 h) refl
 
-        pub any-dictionary-fault : (f : Fault) → keyFault p keys (part s start end) ≡ 0 → value end ≡ Walk.Fault f → Walk.Fault f ≡ dictionaryFrom p value s at keys
+        pub any-dictionary-fault : (f : Fault) → keyFault p keys (slice s start end) ≡ 0 → value end ≡ Walk.Fault f → Walk.Fault f ≡ dictionaryFrom p value s at keys
         any-dictionary-fault f k e = rw (dictionary-step at keys, ne-eqb (byteAt s at) 101 b, key, k, e) refl
 
-        pub any-dictionary-more : (to : ℕ) → keyFault p keys (part s start end) ≡ 0 → value end ≡ Walk.End to → dictionaryFrom p value s to (part s start end ∷ keys) ≡ dictionaryFrom p value s at keys
+        pub any-dictionary-more : (to : ℕ) → keyFault p keys (slice s start end) ≡ 0 → value end ≡ Walk.End to → dictionaryFrom p value s to (slice s start end ∷ keys) ≡ dictionaryFrom p value s at keys
         any-dictionary-more to k e = rw (dictionary-step at keys, ne-eqb (byteAt s at) 101 b, key, k, e) refl
 
 -- ---- values: where they end, by the levels
@@ -179,12 +179,12 @@ module _ (p : Profile) (levels : ℕ) (s : List ℕ) (at : ℕ) where
       dictionary-no-key f e = any-dictionary-no-key s (valueAt p levels s) (value-ends p levels s) p at keys b f e
 
       module _ (start end : ℕ) (text : stringAt s at ≡ Text.Bytes start end) where
-        pub dictionary-refused : (code : ℕ) → (keyFault p keys (part s start end) ≡ code) × (code ≡ 0 → ⊥) → Walk.Fault (fault code at) ≡ dictionaryFrom p (valueAt p levels s) s at keys
+        pub dictionary-refused : (code : ℕ) → (keyFault p keys (slice s start end) ≡ code) × (code ≡ 0 → ⊥) → Walk.Fault (fault code at) ≡ dictionaryFrom p (valueAt p levels s) s at keys
         dictionary-refused code k = any-dictionary-refused s (valueAt p levels s) (value-ends p levels s) p at keys b start end text code (sym (k .0)) (k .1)
 
-        module _ (k : keyFault p keys (part s start end) ≡ 0) where
+        module _ (k : keyFault p keys (slice s start end) ≡ 0) where
           pub dictionary-fault : (f : Fault) → valueAt p levels s end ≡ Walk.Fault f → Walk.Fault f ≡ dictionaryFrom p (valueAt p levels s) s at keys
           dictionary-fault f e = any-dictionary-fault s (valueAt p levels s) (value-ends p levels s) p at keys b start end text f k e
 
-          pub dictionary-more : (to : ℕ) → valueAt p levels s end ≡ Walk.End to → dictionaryFrom p (valueAt p levels s) s to (part s start end ∷ keys) ≡ dictionaryFrom p (valueAt p levels s) s at keys
+          pub dictionary-more : (to : ℕ) → valueAt p levels s end ≡ Walk.End to → dictionaryFrom p (valueAt p levels s) s to (slice s start end ∷ keys) ≡ dictionaryFrom p (valueAt p levels s) s at keys
           dictionary-more to e = any-dictionary-more s (valueAt p levels s) (value-ends p levels s) p at keys b start end text to k e

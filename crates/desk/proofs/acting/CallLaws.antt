@@ -19,7 +19,7 @@ use Rattle.desk.specs.Command.{Command, framesOf}
 use Rattle.desk.specs.Refusal.{callFault}
 use Rattle.desk.specs.Plan.{Outcome, deferred, deskAfter, commandsOf, plan}
 use Rattle.desk.specs.Calls.{refused, accepted, decided, framed, delivered, outcome, returned, bufferAfter, Returned}
-use Rattle.desk.proofs.numbers.Cases.{by-cases, cond-cases}
+use Rattle.desk.proofs.general.Cases.{by-cases, cond-cases}
 use Rattle.desk.proofs.acting.RefusalLaws.{Accepted, accepted-call, fault-code, fault-sound}
 
 -- ---- what the function returns and leaves

@@ -11,7 +11,7 @@ use Rattle.desk.specs.Limit.{isLimit}
 use Rattle.desk.specs.Watch.{mostWatched, isId, allIds}
 use Rattle.desk.specs.Command.{Command, listing}
 use Rattle.desk.specs.Machine.{Machine, isAmong, obey}
-use Rattle.desk.proofs.numbers.Cases.{and-true}
+use Rattle.desk.proofs.general.Cases.{and-true}
 
 -- ---- sendable: limits in their range, and at most 32 torrent IDs
 abbrev pub FewIds : List ℕ → Type 0

@@ -13,7 +13,7 @@ use Rattle.desk.specs.Record.{watched}
 use Rattle.desk.specs.Plan.{raiseCommands, clearCommands}
 use Rattle.desk.specs.Machine.{Machine, isAmong}
 use Rattle.desk.specs.Demands.{overridden}
-use Rattle.desk.proofs.numbers.Cases.{by-cases}
+use Rattle.desk.proofs.general.Cases.{by-cases}
 use Rattle.desk.proofs.watching.WatchLists.{has-apart, idsOk}
 use Rattle.desk.proofs.watching.FilteredIds.{unwatched-unlisted, others-listed, marked-listed}
 use Rattle.desk.proofs.machines.CommandLaws.{obeyAll, machine-path, four-obeyed}

@@ -12,7 +12,7 @@ use lib.IntN.{ℤ, pos, negsuc}
 use lib.ListN.{length, take, drop, length-append, length-take, length-drop}
 use lib.Seq.{take-append-seam, drop-append-seam, take-append-le, drop-append-le}
 use borrow.Author.Tests.{leb-true, ne-eqb}
-use Rattle.octets.specs.Bytes.{part as bytesFrom}
+use Rattle.octets.specs.Bytes.{slice}
 use Rattle.bencode.specs.Integers.{InRange}
 use Rattle.bencode.specs.Value.{encode}
 use Rattle.ipc.specs.declared.keys.Class.{Class}
@@ -23,12 +23,12 @@ use Rattle.ipc.specs.Ids.{largestTag}
 use Rattle.ipc.specs.Demands.{bytesNamed}
 use Rattle.ipc.specs.Keys.{listed as keys, classOf}
 use Rattle.ipc.specs.Writer.{payloadOf}
-use Rattle.ipc.proofs.writing.WriteLaws.{frame-length}
+use Rattle.ipc.proofs.writing.WriterLaws.{frame-length}
 use Rattle.ipc.proofs.ReadsBack.{reads-back}
 use Rattle.desk.specs.Limit.{isLimit}
 use Rattle.desk.specs.Command.{Command, noTag, downlimitKey, startKey, stopKey, uplimitKey, idList, messageFrame, limitFrame, idsFrame, commandFrame, framesOf, longestFrames, LimitKey, ListKey}
 use Rattle.desk.specs.Machine.{Machine, obey, idsIn, limitCommand, idsCommand, contentCommand, commandIn, obeying, takes, handed}
-use Rattle.desk.proofs.numbers.Cases.{both}
+use Rattle.desk.proofs.general.Cases.{both}
 use Rattle.desk.proofs.machines.CommandLaws.{FewIds, Sendable, AllSendable, obeyAll}
 use Rattle.desk.proofs.ReadsIds.{ids-read}
 use Rattle.desk.proofs.writing.Writes.{writable-answer, limit-writable, ids-writable}
@@ -40,8 +40,8 @@ limit-range (pos n) h = omega (arith, leb-true n 1000000 h)
 limit-range (negsuc n) h = omega (arith, leb-true n 0 (both (leb n 0) _ h .0))
 
 -- ---- bytes of a frame are the same bytes of what begins with it
-part-append : (frame rest s : List ℕ) (at : ℕ) → 1 ≤ length s → bytesFrom frame at (at + length s) ≡ s
-    → bytesFrom (frame ++ rest) at (at + length s) ≡ s
+part-append : (frame rest s : List ℕ) (at : ℕ) → 1 ≤ length s → slice frame at (at + length s) ≡ s
+    → slice (frame ++ rest) at (at + length s) ≡ s
 part-append frame rest s at some-bytes e =
     let n : at + length s - at ≡ length s = omega arith in
     let whole : take (length s) (drop at frame) ≡ s = ap (λ (k : ℕ). take k (drop at frame)) (sym n) ∙ e in

@@ -21,7 +21,7 @@ use Rattle.desk.specs.Plan.{Outcome, deskAfter, commandsOf, raiseCommand
 use Rattle.desk.specs.Calls.{refused, accepted}
 use Rattle.desk.specs.Machine.{Machine, isAmong, obey, request, aloneAfter}
 use Rattle.desk.specs.Demands.{overridden}
-use Rattle.desk.proofs.numbers.Cases.{by-cases, cond-cases}
+use Rattle.desk.proofs.general.Cases.{by-cases, cond-cases}
 use Rattle.desk.proofs.watching.WatchLists.{entry, has-set, marked-set, place-below, has-id, id-not-zero}
 use Rattle.desk.proofs.records.SoundLaws.{sound-parts, watched-length, pick-ids, pick-length}
 use Rattle.desk.proofs.machines.CommandLaws.{FewIds, Sendable, AllSendable, obeyAll, one-id, four-sendable}

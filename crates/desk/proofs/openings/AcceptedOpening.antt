@@ -14,7 +14,7 @@ use Rattle.desk.specs.Limit.{isLimit}
 use Rattle.desk.specs.Watch.{mostWatched, listFault}
 use Rattle.desk.specs.Record.{openedWith, sound}
 use Rattle.desk.specs.Opening.{openCode, refusedOpening, opening}
-use Rattle.desk.proofs.numbers.Cases.{by-cases, both}
+use Rattle.desk.proofs.general.Cases.{by-cases, both}
 use Rattle.desk.proofs.watching.Places.{take-places, unused-places}
 use Rattle.desk.proofs.watching.WatchLists.{idsOk, fault-ids}
 use Rattle.desk.proofs.records.SoundLaws.{parts-sound}

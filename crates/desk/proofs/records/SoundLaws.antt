@@ -13,7 +13,7 @@ use Rattle.desk.specs.declared.record.Desk.{Desk}
 use Rattle.desk.specs.Limit.{isLimit}
 use Rattle.desk.specs.Watch.{mostWatched, has, listFault, unused, filtered, allIds}
 use Rattle.desk.specs.Record.{watched, limitsSound, listSound, sound}
-use Rattle.desk.proofs.numbers.Cases.{by-cases, both, and-true}
+use Rattle.desk.proofs.general.Cases.{by-cases, both, and-true}
 use Rattle.desk.proofs.watching.WatchLists.{idsOk, ids-cons, fault-ids, ids-fault}
 
 -- ---- a sound record

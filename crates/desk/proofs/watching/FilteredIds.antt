@@ -9,7 +9,7 @@ use borrow.Author.Tests.{eqb-true, eqb-false, ne-eqb}
 use Rattle.desk.specs.declared.watch.Watch.{Watch}
 use Rattle.desk.specs.Watch.{has, marked, filtered}
 use Rattle.desk.specs.Machine.{isAmong}
-use Rattle.desk.proofs.numbers.Cases.{by-cases}
+use Rattle.desk.proofs.general.Cases.{by-cases}
 use Rattle.desk.proofs.watching.WatchLists.{idsOk, ids-cons}
 
 -- a number that equals b is not c, where b and c differ

@@ -10,7 +10,7 @@ use lib.ListN.{length, set}
 use borrow.Author.Tests.{eqb-true, eqb-false, ne-eqb, not-true, eq-eqb, lt-ltb, le-ltb}
 use Rattle.desk.specs.declared.watch.Watch.{Watch}
 use Rattle.desk.specs.Watch.{isId, has, place, marked, listFault}
-use Rattle.desk.proofs.numbers.Cases.{by-cases, both, neither, and-true}
+use Rattle.desk.proofs.general.Cases.{by-cases, both, neither, and-true}
 
 -- ---- tests
 -- no number equals both of two that differ

@@ -20,11 +20,11 @@ use Rattle.ipc.specs.Ids.{largestId, largestTag}
 use Rattle.ipc.specs.Keys.{keyText, classOf, listed}
 use Rattle.ipc.specs.Writer.{encodeGiven, encodeTag, payloadOf}
 use Rattle.ipc.proofs.meaning.Inverts.{and-left, and-right}
-use Rattle.ipc.proofs.writing.WriteLaws.{payload-length, frame-length}
+use Rattle.ipc.proofs.writing.WriterLaws.{payload-length, frame-length}
 use Rattle.desk.specs.Limit.{isLimit}
 use Rattle.desk.specs.Watch.{mostWatched, isId, allIds}
 use Rattle.desk.specs.Command.{downlimitKey, startKey, stopKey, uplimitKey, values, idList, messageFrame, limitFrame, idsFrame, noTag, longestFrames, LimitKey, ListKey}
-use Rattle.desk.proofs.numbers.Cases.{cond-cases}
+use Rattle.desk.proofs.general.Cases.{cond-cases}
 
 -- ---- integers
 pub limit-small : (n : ℤ) → isLimit n ≡ true → length (encode (integer n)) ≤ 9

@@ -18,7 +18,7 @@ use Rattle.desk.specs.Watch.{has, picked, filtered, pickIds, allIds}
 use Rattle.desk.specs.Record.{watched, sound}
 use Rattle.desk.specs.Command.{Command, noTag, downlimitKey, startKey, stopKey, uplimitKey, values, idList, limitFrame, idsFrame, commandFrame, framesOf, listing, listedFrame, longestFrames}
 use Rattle.desk.specs.Plan.{raiseCommands, clearCommands}
-use Rattle.desk.proofs.numbers.Cases.{by-cases}
+use Rattle.desk.proofs.general.Cases.{by-cases}
 use Rattle.desk.proofs.machines.CommandLaws.{FewIds, fourCommands, one-id}
 use Rattle.desk.proofs.writing.FrameLengths.{no-tag, limit-small, list-length, items-small, items-some, down-length, up-length, start-length, stop-length}
 use Rattle.desk.proofs.records.SoundLaws.{sound-parts, watched-length, pick-ids, pick-length, pick-both}

@@ -19,7 +19,7 @@ use Rattle.ipc.specs.Header.{largestPayload}
 use Rattle.ipc.specs.Writer.{isIdList, valueFits, payloadOf, messageFault, writeAnswer, frameOf, fitted}
 use Rattle.ipc.proofs.IdLists.{id-list-exactly}
 use Rattle.ipc.proofs.meaning.Inverts.{and-left, and-right}
-use Rattle.ipc.proofs.writing.WriteLaws.{frame-length, fitted-count}
+use Rattle.ipc.proofs.writing.WriterLaws.{frame-length, fitted-count}
 use Rattle.desk.specs.Limit.{isLimit}
 use Rattle.desk.specs.Watch.{isId, allIds}
 use Rattle.desk.specs.Command.{downlimitKey, startKey, stopKey, uplimitKey, values, idList, messageFrame, longestFrames, Writable, LimitKey, ListKey}

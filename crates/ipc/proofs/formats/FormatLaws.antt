@@ -24,7 +24,7 @@ use Rattle.bencode.specs.Skip.{skipRest}
 use Rattle.bencode.specs.Strings.{stringAt}
 use Rattle.bencode.proofs.walking.Ends.{integer-fits, integer-ends, string-whole-inv}
 use Rattle.bencode.proofs.lookup.FieldLaws.{NoInteger, integer-other, field-ends}
-use Rattle.bencode.proofs.sequences.LoopLaws.{items-end, items-done, items-next}
+use Rattle.bencode.proofs.loops.LoopLaws.{items-end, items-done, items-next}
 use Rattle.bencode.proofs.scalars.Ranges.{machine, natural-machine, same, too-low, too-high, in-range}
 use Rattle.bencode.proofs.lookup.SkipLaws.{skip-range}
 use Rattle.ipc.specs.declared.format.Checked.{Checked}

@@ -8,7 +8,7 @@ use lib.IntN.{ℤ}
 use Rattle.bencode.specs.declared.fault.Fault.{Fault}
 use Rattle.bencode.specs.declared.strings.Text.{Text}
 use Rattle.bencode.specs.declared.integers.Number.{Number}
-use Rattle.octets.specs.Bytes.{byteAt, part}
+use Rattle.octets.specs.Bytes.{byteAt, slice}
 use Rattle.bencode.specs.Strings.{stringAt}
 use Rattle.bencode.specs.Integers.{integerAt}
 use Rattle.bencode.specs.declared.item.Item.{Item}
@@ -57,6 +57,6 @@ module _ (p : List ℕ) where
     unfolding messageReading
     message-no-value v = rw (e, v) refl
 
-    pub message-keyed : (to : ℕ) → itemAt p end ≡ Item.Value to → fromTag p (keyNumber (part p start end)) end to (tailAt p to) ≡ messageReading p
+    pub message-keyed : (to : ℕ) → itemAt p end ≡ Item.Value to → fromTag p (keyNumber (slice p start end)) end to (tailAt p to) ≡ messageReading p
     unfolding messageReading
     message-keyed to v = rw (e, v) refl

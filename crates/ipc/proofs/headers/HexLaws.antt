@@ -11,7 +11,7 @@ use borrow.Author.Tests.{lt-ltb, le-ltb}
 use lib.Arith.{mod-mul}
 use lib.Dec.{eqb, eqb→eq}
 use lib.ListN.{length, replicate}
-use Rattle.octets.proofs.digits.Table.{at}
+use Rattle.octets.proofs.general.Table.{at}
 use Rattle.ipc.specs.Header.{headerLength, hexValue}
 use Rattle.ipc.specs.Hex.{hexDigit, hexIn, hexHeader, upper}
 use Rattle.ipc.specs.Demands.{HexDigits, none, more, hexFrom}

@@ -12,12 +12,12 @@ use Rattle.bencode.specs.declared.fault.Fault.{Fault}
 use Rattle.bencode.specs.declared.strings.Text.{Text}
 use Rattle.bencode.specs.declared.integers.Number.{Number}
 use Rattle.bencode.specs.declared.profile.Profile.{Profile}
-use Rattle.octets.specs.Bytes.{byteAt, part, Begins}
+use Rattle.octets.specs.Bytes.{byteAt, slice, Begins}
 use Rattle.bencode.specs.Strings.{stringAt}
 use Rattle.bencode.specs.Integers.{integerAt, within}
 use Rattle.bencode.specs.Value.{Value, integer, string, list, dictionary, Values, no-value, value, encodeString, encode, encodeAll, All, WellFormed}
 use Rattle.bencode.proofs.values.Encodings.{values-text}
-use Rattle.bencode.proofs.walking.FirstBytes.{no-string}
+use Rattle.bencode.proofs.values.FirstBytes.{no-string}
 use Rattle.bencode.proofs.Lookups.{starts, reads-integer, reads-string, finds-item, ends-items, items-begin, value-first}
 use Rattle.octets.specs.Numerals.{decimal}
 use Rattle.octets.proofs.sequences.BeginsLaws.{begins-left, begins-right, begins-head}
@@ -148,7 +148,7 @@ module _ (profile : Profile) (levels : ℕ) (p : List ℕ) where
   no-key h = let k = no-string p 1 h in ap answerOf (sym (message-no-key p (k .0) (k .1)))
 
   -- after a key
-  second-means : (key : List ℕ) (start : ℕ) → stringAt p 1 ≡ Text.Bytes start (1 + length (encodeString key)) → part p start (1 + length (encodeString key)) ≡ key
+  second-means : (key : List ℕ) (start : ℕ) → stringAt p 1 ≡ Text.Bytes start (1 + length (encodeString key)) → slice p start (1 + length (encodeString key)) ≡ key
       → (vs : Values) → All (WellFormed profile levels) vs → Begins p (1 + length (encodeString key)) (encodeAll vs ++ (101 ∷ [])) (length p) → answerOf (messageReading p) ≡ secondOf (headerLength + length p) key vs
   unfolding encode
   second-means key start text is no-value g c =

@@ -105,7 +105,8 @@ places-suc k n l h =
     ∙ decimal-places k (n / 10 ^ k) (n % 10 ^ k) d> (mod-lt n p)
     ∙ rw (decimal-small (n / 10 ^ k) d<)
 
--- the decimal form has a digit; it is the lowest places, as many as it is long; the number is below that power of ten, and from the next one down up
+-- the decimal form has a digit; it is the lowest places, as many as it is long; the number is below that power of ten, and
+-- from the next one down up
 pub record Form (n : ℕ) (k : ℕ) : Type 0 where
   pub long : length (decimal n) ≡ suc k
   pub filled : decimal n ≡ places (suc k) n

@@ -1,4 +1,4 @@
--- Laws of the digits of a payload, which the proofs of its readers cite.
+-- Laws of digits that are read, for each way through their readers.
 -- Assumes nothing.
 use Prim.Native.Nat.{ℕ, _+_, _-_, _*_, _^_, _≤_, _<_, min}
 use mathlib.Core.Path.{_≡_, refl, ap, _∙_}
@@ -14,7 +14,7 @@ use Rattle.octets.specs.declared.numerals.Decimal.{Decimal}
 use Rattle.octets.specs.Bytes.{byteAt}
 use Rattle.octets.specs.Numerals.{isDigit, digits, digitsAt, numeralAt, capped}
 
--- a byte that is not 0 stands inside the payload
+-- a byte that is not 0 stands inside the bytes
 pub inside : (s : List ℕ) (at : ℕ) → 0 < byteAt s at → at < length s
 inside s at h = elim (decLt at (length s)) [ yes p ↦ p | no q ↦ absurd (omega (arith, List·getD-eq-default s 0 {n = at} (omega arith))) ]
 

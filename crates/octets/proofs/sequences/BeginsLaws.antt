@@ -1,4 +1,4 @@
--- What a payload holds from an offset on.
+-- What bytes hold from an offset on.
 -- Assumes nothing.
 use Prim.Native.Nat.{ℕ, suc, _+_, _-_, _≤_, _<_}
 use mathlib.Core.Path.{_≡_, refl, sym, ap, _∙_}
@@ -7,7 +7,7 @@ use native.Mathlib.Omega.{arith}
 use native.Mathlib.Nat.{add-zero}
 use lib.ListN.{length, getD, take, drop, length-append, length-drop, take-append-drop}
 use lib.Seq.{drop-cons, drop-drop, getD-drop, drop-append-seam, take-append-seam, length-take-le}
-use Rattle.octets.specs.Bytes.{byteAt, part, Begins}
+use Rattle.octets.specs.Bytes.{byteAt, slice, Begins}
 use Rattle.octets.proofs.digits.NumeralLaws.{inside}
 
 module _ (s : List ℕ) where
@@ -41,18 +41,18 @@ module _ (s : List ℕ) where
   pub begins-head : (at b e : ℕ) (bs : List ℕ) → Begins s at (b ∷ bs) e → byteAt s at ≡ b
   begins-head at b e bs h = ap (λ (k : ℕ). getD s k 0) (sym (add-zero at)) ∙ sym (getD-drop at s 0 0) ∙ ap (λ (l : List ℕ). getD l 0 0) (h .is)
 
-  pub begins-part : (at e : ℕ) → at ≤ e → e ≤ length s → Begins s at (part s at e) e
+  pub begins-part : (at e : ℕ) → at ≤ e → e ≤ length s → Begins s at (slice s at e) e
   begins-part at e p q = record {
     rest = drop (e - at) (drop at s);
     is = sym (take-append-drop (e - at) (drop at s));
     ends = omega (arith, length-take-le (e - at) (drop at s) (omega (arith, length-drop at s)));
   }
 
-  pub part-begins : (at e : ℕ) (x : List ℕ) → Begins s at x e → part s at e ≡ x
+  pub part-begins : (at e : ℕ) (x : List ℕ) → Begins s at x e → slice s at e ≡ x
   part-begins at e x b =
       let n : e - at ≡ length x = omega (arith, b .ends) in
       ap (λ (k : ℕ). take k (drop at s)) n ∙ ap (λ (l : List ℕ). take (length x) l) (b .is) ∙ take-append-seam x (b .rest)
 
-  -- the end is within the payload
+  -- the end is within the bytes
   pub begins-within : (at e : ℕ) (x : List ℕ) → at ≤ length s → Begins s at x e → e ≤ length s
   begins-within at e x h b = omega (arith, b .ends, length-drop at s, ap length (b .is) ∙ length-append x (b .rest))

@@ -29,7 +29,8 @@ wrote-byte l i b = record { stored = refl; ended = refl }
 pub wrote-length : {a b xs : List ℕ} {i j : ℕ} → Wrote a i xs b j → length b ≡ length a
 wrote-length {a} {b} {xs} {i} p = ap length (p .stored) ∙ length-sets a i xs
 
--- parts are being written one after the other from an offset of a buffer: so far it is `b`, and from the offset `j` on the parts `rest` are left
+-- parts are being written one after the other from an offset of a buffer: so far it is `b`, and from the offset `j` on the
+-- parts `rest` are left
 pub record Writing (a : List ℕ) (i : ℕ) (parts : List (List ℕ)) (b : List ℕ) (j : ℕ) (rest : List (List ℕ)) : Type 0 where
   pub stores : sets b j (flatten rest) ≡ sets a i (flatten parts)
   pub ends : j + length (flatten rest) ≡ i + length (flatten parts)

@@ -10,7 +10,7 @@ use Rattle.octets.specs.Put.{Wrote, Put}
 use Rattle.octets.proofs.digits.DigitLaws.{length-below}
 use Rattle.octets.proofs.writing.PutLaws.{Writing, start, finish, next-put, wrote-none, wrote-length, wrote-front, wrote-then}
 use Rattle.strip.specs.declared.output.Output.{Output}
-use Rattle.strip.specs.Line.{space, newline, blank, textOf, callLine, framesText, callText}
+use Rattle.strip.specs.Line.{space, newline, blank, outputOf, callLine, framesText, callText}
 
 abbrev pub wordParts : List ℕ → ℕ → List (List ℕ)
 wordParts word n = word ∷ decimal n ∷ newline ∷ []
@@ -55,8 +55,8 @@ pub call-start : (out : List ℕ) (kind code count : ℕ) → 48 ≤ length out 
 call-start out kind code count l h g f = let room = call-room kind code count h g f in start out 0 (callParts kind code count) (omega (arith, room, l))
 
 -- all is put: the text
-text-done : (t bytes : List ℕ) (n : ℕ) → length t ≤ 528 → Wrote blank 0 t bytes n → _≡_ {A = Output} (record { bytes = bytes; length = n }) (textOf t)
-unfolding textOf
+text-done : (t bytes : List ℕ) (n : ℕ) → length t ≤ 528 → Wrote blank 0 t bytes n → _≡_ {A = Output} (record { bytes = bytes; length = n }) (outputOf t)
+unfolding outputOf
 text-done t bytes n h w =
     let room : length t ≤ length blank = omega (arith, h) in
     let front : bytes ≡ _ = wrote-front room w in
@@ -64,7 +64,7 @@ text-done t bytes n h w =
     rw (front, count) refl
 
 pub word-done : (word : List ℕ) (k : ℕ) (bytes : List ℕ) (n : ℕ) → Writing blank 0 (wordParts word k) blank 0 (wordParts word k)
-    → Writing blank 0 (wordParts word k) bytes n [] → _≡_ {A = Output} (record { bytes = bytes; length = n }) (textOf (flatten (wordParts word k)))
+    → Writing blank 0 (wordParts word k) bytes n [] → _≡_ {A = Output} (record { bytes = bytes; length = n }) (outputOf (flatten (wordParts word k)))
 word-done word k bytes n w v = let room : length (flatten (wordParts word k)) ≤ 528 = omega (arith, w .room) in text-done (flatten (wordParts word k)) bytes n room (finish v)
 
 -- ---- the bytes that a call wrote, on a line
@@ -94,7 +94,7 @@ module _ (kind code : ℕ) (bytes : List ℕ) (hk : kind < 256) (hc : code < 256
       omega (arith, kept, w .ended, line-room, frames-room bytes, hb)
 
   pub call-done : {b c : List ℕ} {j k : ℕ} → Wrote blank 0 (callLine kind code (length bytes)) b j → Wrote b j (framesText bytes) c k
-      → _≡_ {A = Output} (record { bytes = c; length = k }) (textOf (callText kind code bytes))
+      → _≡_ {A = Output} (record { bytes = c; length = k }) (outputOf (callText kind code bytes))
   unfolding callText
   call-done {b} {c} {j} {k} w v =
       let line = callLine kind code (length bytes) in

@@ -1,4 +1,5 @@
--- A record that is taken has a byte at least and stands within the strip; and a call, or the end, is the same before a call and after.
+-- A record that is taken has a byte at least and stands within the strip; and a call, or the end, is the same before a call
+-- and after.
 -- Assumes nothing.
 use Prim.Native.Nat.{ℕ, _+_, _≤_, _<_}
 use mathlib.Core.Path.{_≡_, refl, sym, subst}
@@ -11,7 +12,7 @@ use lib.ListN.{length}
 use Rattle.octets.specs.Bytes.{byteAt}
 use Rattle.strip.specs.declared.record.Record.{Record}
 use Rattle.strip.specs.declared.record.Decoded.{Decoded}
-use Rattle.strip.specs.Record.{bodyLength, mayStand, watchOf, bodyAt, faultAt, placedAt, endAt, wholeAt, longestStrip, recordAt}
+use Rattle.strip.specs.Record.{bodyLength, mayStand, watchOf, bodyAt, faultAt, placedAt, endAt, wholeRecordAt, longestStrip, recordAt}
 use Rattle.strip.proofs.records.RecordLaws.{at-watch}
 use Rattle.strip.proofs.KindNamed.{cases}
 
@@ -42,8 +43,8 @@ module _ (s : List ℕ) (at : ℕ) where
   unfolding endAt
   end-forward = cases Onward (eqb at 0) (λ e. fault-forward 0) (λ e. tt)
 
-  whole-forward : (called : Bool) → Onward (wholeAt s at called)
-  unfolding wholeAt
+  whole-forward : (called : Bool) → Onward (wholeRecordAt s at called)
+  unfolding wholeRecordAt
   whole-forward called =
       let kind = byteAt s at in
       cases Onward (mayStand (eqb at 0) called kind)
@@ -82,8 +83,8 @@ module _ (s : List ℕ) (at : ℕ) where
   watch-missed next = cases (λ r. Missed (placedAt r at next)) (ltb 1 (byteAt s (at + 1 + 4))) (λ e. fault-missed at) (λ e m. m)
 
   -- a watch record is none of both
-  missed : (called : Bool) → byteAt s at ≡ 7 → Missed (wholeAt s at called)
-  unfolding wholeAt
+  missed : (called : Bool) → byteAt s at ≡ 7 → Missed (wholeRecordAt s at called)
+  unfolding wholeRecordAt
   missed called k =
       let kind = byteAt s at in
       let next = at + 1 + bodyLength kind in
@@ -94,14 +95,14 @@ module _ (s : List ℕ) (at : ℕ) where
       (λ m. cases Missed (leb next (length s)) (λ e. subst (λ r. Missed (placedAt r at next)) body (watch-missed next)) (λ e. fault-missed at))
       (λ m. fault-missed at)
 
-  other : mayStand (eqb at 0) true (byteAt s at) ≡ mayStand (eqb at 0) false (byteAt s at) → wholeAt s at true ≡ wholeAt s at false
-  unfolding wholeAt
+  other : mayStand (eqb at 0) true (byteAt s at) ≡ mayStand (eqb at 0) false (byteAt s at) → wholeRecordAt s at true ≡ wholeRecordAt s at false
+  unfolding wholeRecordAt
   other e = rw e refl
 
-  whole-again : Meets (wholeAt s at false .found) → wholeAt s at true ≡ wholeAt s at false
+  whole-again : Meets (wholeRecordAt s at false .found) → wholeRecordAt s at true ≡ wholeRecordAt s at false
   whole-again m = by-test (eqb (byteAt s at) 7) refl
     where
-      by-test : (t : Bool) → eqb (byteAt s at) 7 ≡ t → wholeAt s at true ≡ wholeAt s at false
+      by-test : (t : Bool) → eqb (byteAt s at) 7 ≡ t → wholeRecordAt s at true ≡ wholeRecordAt s at false
       by-test true e = absurd (missed false (eqb-true (byteAt s at) 7 e) m)
       by-test false e = other (stands-again (eqb at 0) (byteAt s at) e)
 
@@ -109,8 +110,8 @@ module _ (s : List ℕ) (at : ℕ) where
   unfolding recordAt
   again = go (leb (length s) longestStrip) (leb (length s) at)
     where
-      go : (a b : Bool) → Meets (cond a (cond b (endAt at) (wholeAt s at false)) (faultAt longestStrip) .found)
-          → cond a (cond b (endAt at) (wholeAt s at true)) (faultAt longestStrip) ≡ cond a (cond b (endAt at) (wholeAt s at false)) (faultAt longestStrip)
+      go : (a b : Bool) → Meets (cond a (cond b (endAt at) (wholeRecordAt s at false)) (faultAt longestStrip) .found)
+          → cond a (cond b (endAt at) (wholeRecordAt s at true)) (faultAt longestStrip) ≡ cond a (cond b (endAt at) (wholeRecordAt s at false)) (faultAt longestStrip)
       go true true m = refl
       go true false m = whole-again m
       go false b m = refl

@@ -1,4 +1,5 @@
--- One watch record more, one law for each way; and that the desk opens with the records gathered as with the list of all that came.
+-- One watch record more, one law for each way; and that the desk opens with the records gathered as with the list of all
+-- that came.
 -- Assumes nothing.
 use Prim.Native.Nat.{ℕ, zero, suc, _+_, _≤_, _<_}
 use mathlib.Core.Path.{_≡_, refl, sym, ap, _∙_}

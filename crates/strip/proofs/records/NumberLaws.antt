@@ -10,7 +10,7 @@ use mir.Syntax.{w32}
 use mir.Val.{SFits, toZ, ofZ}
 use mir.ValLaws.{toZ-ofZ}
 use mir.Facts.{toZ-pos}
-use Rattle.strip.specs.Number.{signed}
+use Rattle.strip.specs.Number.{twosComplement}
 
 -- -1 - m
 less : (m : ℕ) → negsuc 0 -ℤ pos m ≡ negsuc m
@@ -25,12 +25,12 @@ below-fits m h = record { sfits = h }
 
 -- the two ways of a number
 module _ (n : ℕ) where
-  pub signed-low : n < 2147483648 → toZ w32 n ≡ signed n
-  unfolding signed
+  pub signed-low : n < 2147483648 → toZ w32 n ≡ twosComplement n
+  unfolding twosComplement
   signed-low h = toZ-pos w32 {n = n} h ∙ sym (rw (lt-ltb n 2147483648 h) refl)
 
-  pub signed-high : 2147483648 ≤ n → negsuc (4294967295 - n) ≡ signed n
-  unfolding signed
+  pub signed-high : 2147483648 ≤ n → negsuc (4294967295 - n) ≡ twosComplement n
+  unfolding twosComplement
   signed-high h = rw (le-ltb n 2147483648 h) refl
 
 -- a number of 32 bits, as the machine has it

@@ -15,7 +15,7 @@ use Rattle.desk.specs.declared.call.Call.{Call}
 use Rattle.strip.specs.declared.record.Record.{Record}
 use Rattle.strip.proofs.record.Record.{the-type}
 use Rattle.strip.specs.Number.{numberAt, limitAt}
-use Rattle.strip.specs.Record.{bodyLength, mayStand, callOf, watchOf, bodyAt, faultAt, placedAt, endAt, wholeAt, longestStrip, recordAt}
+use Rattle.strip.specs.Record.{bodyLength, mayStand, callOf, watchOf, bodyAt, faultAt, placedAt, endAt, wholeRecordAt, longestStrip, recordAt}
 
 -- ---- the body of a kind
 module _ (kind : ℕ) where
@@ -59,17 +59,17 @@ module _ (kind : ℕ) (s : List ℕ) (at : ℕ) where
 
 -- ---- a strip at an offset
 module _ (s : List ℕ) (at : ℕ) (called : Bool) where
-  pub whole-stray : mayStand (eqb at 0) called (byteAt s at) ≡ false → wholeAt s at called ≡ faultAt at
-  unfolding wholeAt
+  pub whole-stray : mayStand (eqb at 0) called (byteAt s at) ≡ false → wholeRecordAt s at called ≡ faultAt at
+  unfolding wholeRecordAt
   whole-stray e = rw e refl
 
   module _ (e : mayStand (eqb at 0) called (byteAt s at) ≡ true) where
-    pub whole-cut : at < length s → length s - at ≤ bodyLength (byteAt s at) → wholeAt s at called ≡ faultAt at
-    unfolding wholeAt
+    pub whole-cut : at < length s → length s - at ≤ bodyLength (byteAt s at) → wholeRecordAt s at called ≡ faultAt at
+    unfolding wholeRecordAt
     whole-cut l h = rw (e, lt-leb (at + 1 + bodyLength (byteAt s at)) (length s) (omega arith)) refl
 
-    pub whole-there : bodyLength (byteAt s at) < length s - at → wholeAt s at called ≡ placedAt (bodyAt (byteAt s at) s (at + 1)) at (at + 1 + bodyLength (byteAt s at))
-    unfolding wholeAt
+    pub whole-there : bodyLength (byteAt s at) < length s - at → wholeRecordAt s at called ≡ placedAt (bodyAt (byteAt s at) s (at + 1)) at (at + 1 + bodyLength (byteAt s at))
+    unfolding wholeRecordAt
     whole-there h = rw (e, le-leb (at + 1 + bodyLength (byteAt s at)) (length s) (omega arith)) refl
 
   pub record-long : longestStrip < length s → recordAt s at called ≡ faultAt longestStrip
@@ -81,7 +81,7 @@ module _ (s : List ℕ) (at : ℕ) (called : Bool) where
     unfolding recordAt
     record-end h = rw (le-leb (length s) longestStrip short, le-leb (length s) at h) refl
 
-    pub record-whole : at < length s → recordAt s at called ≡ wholeAt s at called
+    pub record-whole : at < length s → recordAt s at called ≡ wholeRecordAt s at called
     unfolding recordAt
     record-whole h = rw (le-leb (length s) longestStrip short, lt-leb (length s) at h) refl
 

@@ -21,8 +21,8 @@ loop-holds c = search needs
 next-step-requires : tie.Need-next-step-requires Inv-loop μ-loop
 next-step-requires c κs = search needs
 
-print-text-requires : tie.Need-print-text-requires Inv-loop μ-loop
-print-text-requires c κs = search needs
+print-output-requires : tie.Need-print-output-requires Inv-loop μ-loop
+print-output-requires c κs = search needs
 
 returns : tie.Need-returns Inv-loop μ-loop
 returns c = search needs
@@ -45,7 +45,7 @@ run-strip-spec =
     begin-requires
     loop-holds
     next-step-requires
-    print-text-requires
+    print-output-requires
     returns
     loop-less
     loop-again

@@ -3,7 +3,7 @@
 use mathlib.Core.Path.{sym, _∙_}
 use native.Mathlib.Omega.{arith}
 use Rattle.bencode.specs.declared.strings.Text.{Text}
-use Rattle.octets.specs.Bytes.{part}
+use Rattle.octets.specs.Bytes.{slice}
 use Rattle.bencode.proofs.walking.Ends.{string-whole-inv}
 use Rattle.bencode.proofs.walking.KeyLaws.{above-none, above-text}
 use borrow.Author.Needs.{needs}
@@ -14,7 +14,7 @@ returns : tie.Need-returns
 returns c =
     let a = c .before .before .args in
     let s = a .s .now in
-    above-none s (a .seen) (a .at) (part s (a .start) (a .end)) (c .if1 .taken)
+    above-none s (a .seen) (a .at) (slice s (a .start) (a .end)) (c .if1 .taken)
 
 string-requires : tie.Need-string-requires
 string-requires c κs = search needs
@@ -66,13 +66,13 @@ returns-2 c =
     let a = c .before .before .before .before .before .before .before .before .before .args in
     let s = a .s .now in
     let k = c .before .before .before .before .from .given in
-    c .less .ensures ∙ above-text s (a .seen) (a .at) (part s (a .start) (a .end)) (Text.Bytes (k .0 .0) (k .0 .1 .0)) (c .before .before .before .before .before .before .before .if1 .left) (sym (c .before .before .before .before .before .before .string .ensures) ∙ k .1)
+    c .less .ensures ∙ above-text s (a .seen) (a .at) (slice s (a .start) (a .end)) (Text.Bytes (k .0 .0) (k .0 .1 .0)) (c .before .before .before .before .before .before .before .if1 .left) (sym (c .before .before .before .before .before .before .string .ensures) ∙ k .1)
 
 returns-3 : tie.Need-returns-3
 returns-3 c =
     let a = c .before .before .before .before .before .args in
     let s = a .s .now in
-    above-text s (a .seen) (a .at) (part s (a .start) (a .end)) (Text.Fault (c .enum-told .given .0 .0)) (c .before .before .before .if1 .left) (sym (c .before .before .string .ensures) ∙ c .enum-told .given .1)
+    above-text s (a .seen) (a .at) (slice s (a .start) (a .end)) (Text.Fault (c .enum-told .given .0 .0)) (c .before .before .before .if1 .left) (sym (c .before .before .string .ensures) ∙ c .enum-told .given .1)
 
 pub key-above-spec : {M : Type 1} → statement M
 key-above-spec =

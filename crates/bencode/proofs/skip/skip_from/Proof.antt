@@ -1,4 +1,5 @@
--- `bencode::skip::skip_from` meets its contract: skipping on from the present offset comes to the same. No more is open than bytes were passed, so the depth fits.
+-- `bencode::skip::skip_from` meets its contract: skipping on from the present offset comes to the same. No more is open than
+-- bytes were passed, so the depth fits.
 -- Assumes nothing.
 use Prim.Native.Nat.{_≤_, _-_, _+_}
 use mathlib.Core.Path.{_≡_, refl, sym, ap, _∙_}

@@ -1,5 +1,7 @@
--- The proof of the cycle of calls {dictionary, list, value}. The measure of `value` is twice the levels left; `list` and `dictionary` are called with one level less left and call `value` with as many, so theirs lie between.
--- In the loops the bytes left fall. Their invariants say that what is left to walk comes to the same as the whole; for a dictionary also that `seen` is what is kept of the keys so far.
+-- The proof of the cycle of calls {dictionary, list, value}. The measure of `value` is twice the levels left; `list` and
+-- `dictionary` are called with one level less left and call `value` with as many, so theirs lie between.
+-- In the loops the bytes left fall. Their invariants say that what is left to walk comes to the same as the whole; for a
+-- dictionary also that `seen` is what is kept of the keys so far.
 -- Each return cites the law of `WalkLaws` for that way. Nothing here says which keys are allowed: that is `KeyLaws`.
 -- Assumes nothing.
 use Prim.Native.Nat.{ℕ, _+_, _-_, _*_, _<_}
@@ -10,7 +12,7 @@ use borrow.Author.Needs.{needs}
 use lib.ListN.{length}
 use Rattle.bencode.specs.declared.strings.Text.{Text}
 use Rattle.bencode.specs.Strings.{stringAt}
-use Rattle.octets.specs.Bytes.{part}
+use Rattle.octets.specs.Bytes.{slice}
 use Rattle.bencode.specs.Depth.{levelsLeft}
 use Rattle.bencode.specs.Walk.{valueAt, listAt, dictionaryAt, dictionaryFrom}
 use Rattle.octets.proofs.digits.NumeralLaws.{inside}
@@ -172,7 +174,7 @@ dictionary-loop-again t c =
     let text : stringAt s (l .at) ≡ Text.Bytes (k .0 .0) (k .0 .1 .0) = sym (c .before .before .before .before .before .before .before .before .before .before .before .string .ensures) ∙ k .1 in
     let ok = key-allowed (a .profile) (levelsLeft (a .depth)) s (l .seen) (l .at) (l .inv .0) (l .inv .1) (k .0 .0) (k .0 .1 .0) text (c .before .before .before .before .before .next .given .0 .0) (sym (c .before .before .before .before .before .before .before .check-key .ensures) ∙ c .before .before .before .before .before .next .given .1) in
     let value = sym (c .before .before .before .value .ensures) ∙ c .before .after .given .1 in (
-      part s (k .0 .0) (k .0 .1 .0) ∷ l .inv .0,
+      slice s (k .0 .0) (k .0 .1 .0) ∷ l .inv .0,
       ok .1 (c .before .after .given .0 .0) value,
       dictionary-more (a .profile) (levelsLeft (a .depth)) s (l .at) (l .inv .0) (λ e. c .before .before .before .before .before .before .before .before .before .before .before .before .if1 .left (c .before .before .before .before .before .before .before .before .before .before .before .before .before .byte-at .ensures ∙ e)) (k .0 .0) (k .0 .1 .0) text (ok .0) (c .before .after .given .0 .0) value ∙ l .inv .2,
     )

@@ -1,7 +1,7 @@
 -- `c_api::handshake::bogsilver_write_handshake` meets its contract.
 -- Assumes nothing.
 use borrow.Author.Needs.{needs}
-use Rattle.c_api.proofs.AnswerLaws.{leaves-numbers}
+use Rattle.c_api.proofs.answers.AnswerLaws.{leaves-numbers}
 use Rattle.c_api.proofs.handshake.bogsilver_write_handshake.Statement.{statement}
 use Rattle.c_api.proofs.handshake.bogsilver_write_handshake.Tie as tie
 

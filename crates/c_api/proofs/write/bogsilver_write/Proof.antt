@@ -7,7 +7,7 @@ use lib.ListN.{length}
 use mir.Syntax.{w64}
 use mir.ValLaws.{toZ-ofZ}
 use Rattle.c_api.specs.Offered.{offered}
-use Rattle.c_api.proofs.AnswerLaws.{leaves-numbers, refused-numbers, key-refused, leaves-as}
+use Rattle.c_api.proofs.answers.AnswerLaws.{leaves-numbers, refused-numbers, key-refused, leaves-as}
 use Rattle.c_api.proofs.write.bogsilver_write.Statement.{statement}
 use Rattle.c_api.proofs.write.bogsilver_write.Tie as tie
 

@@ -3,10 +3,10 @@
 use mathlib.Core.Path.{sym, ap}
 use denote.Ref.{now}
 use borrow.Author.Needs.{needs}
-use Rattle.ipc.proofs.writing.WriteLaws.{leaves-refused}
+use Rattle.ipc.proofs.writing.WriterLaws.{leaves-refused}
 use Rattle.ipc.specs.declared.writer.Written.{Written}
 use Rattle.c_api.specs.declared.offered.Offered.{Offered}
-use Rattle.c_api.proofs.AnswerLaws.{leaves-as}
+use Rattle.c_api.proofs.answers.AnswerLaws.{leaves-as}
 use Rattle.c_api.proofs.write.write_offered.Statement.{statement}
 use Rattle.c_api.proofs.write.write_offered.Tie as tie
 

@@ -1,4 +1,5 @@
--- `desk::lists::fault_of` meets its contract. The invariant: what the records from i on say, after those before, is what all say.
+-- `desk::lists::fault_of` meets its contract. The invariant: what the records from i on say, after those before, is what all
+-- say.
 -- Assumes nothing.
 use mathlib.Core.Path.{_≡_, refl, sym, _∙_}
 use mathlib.Core.List.{[]}

@@ -1,5 +1,7 @@
--- `desk::opening::copied` meets its contract: a walk of its MIR, by hand, with a loop. `places_for` and `no_places` are called before the loop, and `with_watch` in each turn.
--- The invariant: where t records are left, i + t ≡ n, and the local holds the places of the first i records. Each turn reads record i by its pointer.
+-- `desk::opening::copied` meets its contract: a walk of its MIR, by hand, with a loop. `places_for` and `no_places` are
+-- called before the loop, and `with_watch` in each turn.
+-- The invariant: where t records are left, i + t ≡ n, and the local holds the places of the first i records. Each turn reads
+-- record i by its pointer.
 -- Assumes nothing.
 use mathlib.Core.Path.{_≡_, refl, sym, _∙_, ap, subst}
 use Prim.Native.Nat.{ℕ, zero, suc, _+_, _*_, _<_, _≤_, _^_, min}
@@ -49,7 +51,7 @@ use denote.Triple.Walked.{says, Stays, stay-none-slice, walkOf, goes-none-slice,
 use denote.Exit.{yes}
 use Rattle.desk.specs.Watch.{empty, padded}
 use Rattle.desk.specs.declared.watch.Watch.{Watch}
-use Rattle.desk.proofs.openings.WalkedCall.{asked, asked-that, calls-by}
+use Rattle.desk.proofs.general.WalkedCall.{asked, asked-that, calls-by}
 use Rattle.desk.proofs.watching.Places.{places-none, places-set, places-min}
 use Rattle.desk.proofs.watch.Watch as T
 use Rattle.desk.proofs.watch.Watch.Laws as T′

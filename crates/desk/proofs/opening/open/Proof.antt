@@ -1,5 +1,7 @@
--- `desk::opening::open` meets its contract: a walk of its MIR, by hand. The list is copied by `copied`, and `open_records` opens with the places and the list's length.
--- All that the proof knows of the two is that each meets its contract. The slice is Copy: what it owns is had twice, one copy goes to `copied`, and one is kept for the exit.
+-- `desk::opening::open` meets its contract: a walk of its MIR, by hand. The list is copied by `copied`, and `open_records`
+-- opens with the places and the list's length.
+-- All that the proof knows of the two is that each meets its contract. The slice is Copy: what it owns is had twice, one
+-- copy goes to `copied`, and one is kept for the exit.
 -- Assumes nothing.
 use mathlib.Core.Path.{_≡_, refl, _∙_, ap}
 use Prim.Native.Nat.{ℕ}
@@ -42,7 +44,7 @@ use Rattle.desk.specs.Watch.{padded}
 use Rattle.desk.specs.Opening.{opening}
 use Rattle.desk.specs.declared.watch.Watch.{Watch}
 use Rattle.desk.specs.declared.done.Opened.{Opened}
-use Rattle.desk.proofs.openings.WalkedCall.{asked, calls-by}
+use Rattle.desk.proofs.general.WalkedCall.{asked, calls-by}
 use Rattle.desk.proofs.openings.OpeningLaws.{opening-copied}
 use Rattle.desk.proofs.watch.Watch as T
 use Rattle.desk.proofs.watch.Watch.Laws as T′

@@ -12,8 +12,8 @@ use Rattle.octets.specs.Ascii.{ascii}
 use Rattle.bencode.proofs.scalars.Ranges.{natural-machine}
 use Rattle.ipc.specs.Hex.{hexHeader}
 use Rattle.ipc.specs.HandshakeWriter.{handshakePayload}
-use Rattle.ipc.proofs.writing.WriteLaws.{frame-start, frame-finish}
-use Rattle.ipc.proofs.writing.WriteHandshakeLaws.{handshakeParts, handshake-parts}
+use Rattle.ipc.proofs.writing.WriterLaws.{frame-start, frame-finish}
+use Rattle.ipc.proofs.writing.HandshakeWriterLaws.{handshakeParts, handshake-parts}
 use Rattle.ipc.proofs.handshake_writer.put_handshake.Statement.{statement}
 use Rattle.ipc.proofs.handshake_writer.put_handshake.Tie as tie
 

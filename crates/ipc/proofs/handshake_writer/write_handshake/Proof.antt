@@ -5,8 +5,8 @@ use native.Mathlib.Omega.{arith}
 use denote.Ref.{now}
 use lib.ListN.{length}
 use Rattle.ipc.specs.HandshakeWriter.{handshakePayload, handshakeWritten}
-use Rattle.ipc.proofs.writing.WriteHandshakeLaws.{written-range, written-none}
-use Rattle.ipc.proofs.writing.WriteLaws.{leaves-same, leaves-refused}
+use Rattle.ipc.proofs.writing.HandshakeWriterLaws.{written-range, written-none}
+use Rattle.ipc.proofs.writing.WriterLaws.{leaves-same, leaves-refused}
 use Rattle.ipc.proofs.frames.VersionLaws.{range-machine}
 use borrow.Author.Needs.{needs}
 use Rattle.ipc.proofs.handshake_writer.write_handshake.Statement.{statement}

@@ -13,8 +13,8 @@ use Rattle.bencode.proofs.scalars.Ranges.{natural-machine}
 use Rattle.ipc.specs.Header.{headerLength, largestPayload}
 use Rattle.ipc.specs.Writer.{frameOf}
 use Rattle.ipc.specs.HandshakeWriter.{handshakePayload}
-use Rattle.ipc.proofs.writing.WriteLaws.{frame-length, leaves-44, leaves-count}
-use Rattle.ipc.proofs.writing.WriteHandshakeLaws.{handshake-length}
+use Rattle.ipc.proofs.writing.WriterLaws.{frame-length, leaves-44, leaves-count}
+use Rattle.ipc.proofs.writing.HandshakeWriterLaws.{handshake-length}
 use Rattle.ipc.proofs.handshake_writer.write_range.Statement.{statement}
 use Rattle.ipc.proofs.handshake_writer.write_range.Tie as tie
 

@@ -8,7 +8,7 @@ use Rattle.ipc.specs.declared.header.Sized.{Sized}
 use Rattle.ipc.specs.declared.reading.Reading.{Reading}
 use Rattle.ipc.specs.Answer.{answerOf}
 use Rattle.ipc.specs.Reader.{frameReading, readFrame}
-use Rattle.ipc.proofs.frames.FrameLaws.{sized-small, frame-no-digit, frame-short, frame-sized}
+use Rattle.ipc.proofs.frames.ReaderLaws.{sized-small, frame-no-digit, frame-short, frame-sized}
 use Rattle.ipc.proofs.reader.read.Statement.{statement}
 use Rattle.ipc.proofs.reader.read.Tie as tie
 

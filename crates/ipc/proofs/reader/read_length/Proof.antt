@@ -4,9 +4,9 @@ use mathlib.Core.Path.{ap, _∙_}
 use native.Mathlib.Omega.{arith}
 use borrow.Author.Needs.{needs}
 use Prim.Native.Nat.{ℕ, _+_}
-use Rattle.octets.specs.Bytes.{part}
+use Rattle.octets.specs.Bytes.{slice}
 use Rattle.ipc.specs.Reader.{payloadReading}
-use Rattle.ipc.proofs.frames.FrameLaws.{length-short, length-there}
+use Rattle.ipc.proofs.frames.ReaderLaws.{length-short, length-there}
 use Rattle.ipc.proofs.reader.read_length.Statement.{statement}
 use Rattle.ipc.proofs.reader.read_length.Tie as tie
 
@@ -35,7 +35,7 @@ read-payload-requires : tie.Need-read-payload-requires
 read-payload-requires c κs = search needs
 
 returns-2 : tie.Need-returns-2
-returns-2 c = c .read-payload .ensures ∙ ap (λ (n : ℕ). payloadReading (part (c .before .before .before .before .before .args .s .now) 8 (8 + n))) (c .before .before .before .number .ensures) ∙ length-there (c .before .before .before .before .before .args .s .now) (c .before .before .before .before .before .args .length .0) (omega (arith, c .before .before .before .number .ensures, c .before .before .if1 .left))
+returns-2 c = c .read-payload .ensures ∙ ap (λ (n : ℕ). payloadReading (slice (c .before .before .before .before .before .args .s .now) 8 (8 + n))) (c .before .before .before .number .ensures) ∙ length-there (c .before .before .before .before .before .args .s .now) (c .before .before .before .before .before .args .length .0) (omega (arith, c .before .before .before .number .ensures, c .before .before .if1 .left))
 
 pub read-length-spec : {M : Type 1} → statement M
 read-length-spec =

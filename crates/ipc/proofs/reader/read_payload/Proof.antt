@@ -2,7 +2,7 @@
 -- Assumes nothing.
 use mathlib.Core.Path.{sym, _∙_}
 use borrow.Author.Needs.{needs}
-use Rattle.ipc.proofs.frames.FrameLaws.{payload-fault, payload-dictionary, payload-list, payload-scalar}
+use Rattle.ipc.proofs.frames.ReaderLaws.{payload-fault, payload-dictionary, payload-list, payload-scalar}
 use Rattle.ipc.proofs.reader.read_payload.Statement.{statement}
 use Rattle.ipc.proofs.reader.read_payload.Tie as tie
 

@@ -2,8 +2,8 @@
 -- Assumes nothing.
 use mathlib.Core.Path.{sym, _∙_}
 use native.Mathlib.Omega.{arith}
-use Rattle.ipc.proofs.frames.FrameLaws.{sized-length, sized-over}
-use Rattle.ipc.proofs.writing.WriteLaws.{fault-43, fault-44, fault-none}
+use Rattle.ipc.proofs.frames.ReaderLaws.{sized-length, sized-over}
+use Rattle.ipc.proofs.writing.WriterLaws.{fault-43, fault-44, fault-none}
 use borrow.Author.Needs.{needs}
 use Rattle.ipc.proofs.writer.length_fault.Statement.{statement}
 use Rattle.ipc.proofs.writer.length_fault.Tie as tie

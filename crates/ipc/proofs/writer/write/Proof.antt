@@ -15,7 +15,7 @@ use Rattle.ipc.specs.declared.writer.Written.{Written}
 use Rattle.ipc.specs.Header.{largestPayload}
 use Rattle.ipc.specs.Keys.{keyText, classOf}
 use Rattle.ipc.specs.Writer.{encodeGiven, encodeTag, payloadOf, fitted, messageFault, writeAnswer}
-use Rattle.ipc.proofs.writing.WriteLaws.{payload-length, frame-length, leaves-refused, leaves-same, leaves-count, SizeOf, length-refused, length-small, length-room}
+use Rattle.ipc.proofs.writing.WriterLaws.{payload-length, frame-length, leaves-refused, leaves-same, leaves-count, SizeOf, length-refused, length-small, length-room}
 use Rattle.ipc.proofs.writer.write.Statement.{statement}
 use Rattle.ipc.proofs.writer.write.Tie as tie
 

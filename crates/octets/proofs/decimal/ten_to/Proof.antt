@@ -3,7 +3,7 @@ use mathlib.Core.List.{List, [], _∷_}
 use Prim.Native.Nat.{ℕ, _^_}
 use lib.Dec.{eqb, eqb→eq}
 use lib.ListN.{getD}
-use Rattle.octets.proofs.digits.Table.{at}
+use Rattle.octets.proofs.general.Table.{at}
 use borrow.Author.Needs.{needs}
 use Rattle.octets.proofs.decimal.ten_to.Statement.{statement}
 use Rattle.octets.proofs.decimal.ten_to.Tie as tie

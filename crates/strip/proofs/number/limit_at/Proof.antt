@@ -1,7 +1,7 @@
 -- `strip::number::limit_at` meets its contract.
 -- Assumes nothing.
 use mathlib.Core.Path.{ap, _∙_}
-use Rattle.strip.specs.Number.{signed}
+use Rattle.strip.specs.Number.{twosComplement}
 use Rattle.strip.proofs.records.NumberLaws.{machine}
 use borrow.Author.Needs.{needs}
 use Rattle.strip.proofs.number.limit_at.Statement.{statement}
@@ -16,7 +16,7 @@ from-bits-requires c κs = search needs
 returns : tie.Need-returns
 returns c =
     let e = c .from-bits .ensures in
-    rw (machine (c .from-bits .result) (e .1)) (e .0 ∙ ap signed (c .before .number-at .ensures), e .1)
+    rw (machine (c .from-bits .result) (e .1)) (e .0 ∙ ap twosComplement (c .before .number-at .ensures), e .1)
 
 pub limit-at-spec : {M : Type 1} → statement M
 limit-at-spec = tie.close (tie.spec number-at-requires from-bits-requires returns)

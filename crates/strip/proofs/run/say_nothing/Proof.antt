@@ -6,12 +6,12 @@ use borrow.Author.Needs.{needs}
 use Rattle.strip.proofs.run.say_nothing.Statement.{statement}
 use Rattle.strip.proofs.run.say_nothing.Tie as tie
 
-no-text-requires : tie.Need-no-text-requires
-no-text-requires c κs = search needs
+no-output-requires : tie.Need-no-output-requires
+no-output-requires c κs = search needs
 
 returns : tie.Need-returns
 unfolding silent
-returns c = rw (c .no-text .ensures) refl
+returns c = rw (c .no-output .ensures) refl
 
 pub say-nothing-spec : {M : Type 1} → statement M
-say-nothing-spec = tie.close (tie.spec no-text-requires returns)
+say-nothing-spec = tie.close (tie.spec no-output-requires returns)

@@ -12,18 +12,18 @@ use Rattle.ipc.specs.Writer.{bufferAfter, frameOf, messageFault, writeAnswer, L
 use Rattle.ipc.proofs.listed.KeyLaws.{listed-past}
 use Rattle.c_api.specs.declared.offered.Offered.{Offered}
 use Rattle.c_api.specs.declared.written.WriteAnswer.{WriteAnswer}
-use Rattle.c_api.specs.Written.{writtenNumbers, Answered}
+use Rattle.c_api.specs.Written.{writtenNumbers, WrittenAs}
 use Rattle.c_api.specs.Offered.{unknownCode, offeredAnswer, offeredPayload}
 
 -- what a writer did, by numbers
-pub leaves-numbers : {answer w : Written} {payload before after : List ℕ} {r : WriteAnswer} → Leaves answer payload before w after → r ≡ writtenNumbers w → Answered answer payload before r after
+pub leaves-numbers : {answer w : Written} {payload before after : List ℕ} {r : WriteAnswer} → Leaves answer payload before w after → r ≡ writtenNumbers w → WrittenAs answer payload before r after
 leaves-numbers {payload = payload} {before = before} o e = record {
   answered = e ∙ ap writtenNumbers (o .answered);
   buffer = o .buffer ∙ ap (λ (x : Written). bufferAfter x (frameOf payload) before) (o .answered);
 }
 
 -- a refusal, by numbers
-pub refused-numbers : (answer : Written) (payload before : List ℕ) (code : ℕ) {r : WriteAnswer} → answer ≡ Written.Refused code → r ≡ writtenNumbers (Written.Refused code) → Answered answer payload before r before
+pub refused-numbers : (answer : Written) (payload before : List ℕ) (code : ℕ) {r : WriteAnswer} → answer ≡ Written.Refused code → r ≡ writtenNumbers (Written.Refused code) → WrittenAs answer payload before r before
 refused-numbers answer payload before code h e = record {
   answered = e ∙ ap writtenNumbers (sym h);
   buffer = ap (λ (x : Written). bufferAfter x (frameOf payload) before) (sym h);

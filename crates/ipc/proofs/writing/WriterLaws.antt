@@ -1,4 +1,5 @@
--- Laws of frames that are written: their parts one after the other, the answer, and the buffer after it. They hold of any payload.
+-- Laws of frames that are written: their parts one after the other, the answer, and the buffer after it. They hold of any
+-- payload.
 -- Assumes nothing.
 use Prim.Native.Nat.{ℕ, _+_, _≤_, _<_}
 use mathlib.Core.Path.{_≡_, refl, sym, ap, subst, _∙_}
@@ -55,7 +56,7 @@ fitted-count p room small fits = rw (le-leb (length p) largestPayload small, fra
 pub leaves-refused : (answer : Written) (payload before : List ℕ) (code : ℕ) → answer ≡ Written.Refused code → Leaves answer payload before (Written.Refused code) before
 leaves-refused answer payload before code e = record { answered = sym e; code = ap writtenCode (sym e); count = ap writtenCount (sym e); buffer = refl }
 
--- the same outcome of an answer that is equal
+-- the same of an answer that is equal
 pub leaves-same : {other answer r : Written} {payload before after : List ℕ} → answer ≡ other → Leaves other payload before r after → Leaves answer payload before r after
 leaves-same e o = record { answered = o .answered ∙ sym e; code = o .code ∙ ap writtenCode (sym e); count = o .count ∙ ap writtenCount (sym e); buffer = o .buffer }
 

@@ -23,7 +23,8 @@ use denote.Triple.Statement.{Triple}
 use denote.Triple.Walked.{says}
 
 module _ {M : Type 1} (𝓤 : URA M) (H : Heap 𝓤) (A : Atoms 𝓤) (W : Given 𝓤 H A) (Rs : List RattleType) (mk : Makess 𝓤 H A Rs (Ises Rs)) (a : Denots Rs) (vss : Valss Rs) (are : Are Rs (Ises Rs) a vss) where
-  -- what a callee asks whose parameters are plain data, from their relations: with no `requires`, and with one that states a fact
+  -- what a callee asks whose parameters are plain data, from their relations: with no `requires`, and with one that states a
+  -- fact
   pub asked : ent 𝓤 (emp 𝓤) (sep 𝓤 (sep 𝓤 (emp 𝓤) (sem 𝓤 H A (owns Rs a vss))) (emp 𝓤))
   asked = qed W [] ∵ use0 W (‵ (owns Rs a vss)) (owns-make 𝓤 H A Rs (Ises Rs) mk a vss are) $ nothing ! $ join ! $ frame ! $ done !
 
@@ -31,7 +32,8 @@ module _ {M : Type 1} (𝓤 : URA M) (H : Heap 𝓤) (A : Atoms 𝓤) (W : Given
   asked-that x = qed W [] ∵ says ! x $ use0 W (‵ (owns Rs a vss)) (owns-make 𝓤 H A Rs (Ises Rs) mk a vss are) $ nothing ! $ done !
 
 module _ {M : Type 1} {𝓤 : URA M} {H : Heap 𝓤} {A : Atoms 𝓤} {K : Type 0} {W : Given 𝓤 H A} {Γ : List (Item 𝓤)} {E : Env 𝓤 H} {C : Calls 𝓤 H} {Λ : Loops 𝓤 H} {q : Post 𝓤 H} {d : Place} {f : Name} {xs : List Operand} {rest : Code} where
-  -- the call, at what the callee's triple binds, y, with what it asks at the head: it leaves the lifetimes' tokens, what the result r owns at the
+  -- the call, at what the callee's triple binds, y, with what it asks at the head: it leaves the lifetimes' tokens, what the
+  -- result r owns at the
   -- machine value v, r's relation at v, and the fact that the `ensures` states
   pub calls-by : K → FmC 𝓤 H (W .laws) C → (T : Ended) (c : Clauses 𝓤 T) → Triple 𝓤 (C f) (tripleOf 𝓤 H A (T .signature) (closing 𝓤 H A T c)) → (y : tripleOf 𝓤 H A (T .signature) (closing 𝓤 H A T c) .Ghost)
       → (φ : Res (T .signature) (y .0 .0) → Type 0) → ((r : Res (T .signature) (y .0 .0)) (ws : Lasts T (y .0 .0) (y .0 .3)) → ent 𝓤 (c (y .0 .0) (y .0 .3) .ensures (y .1) r (atExit T (y .0 .0) (y .0 .3) ws)) (fact 𝓤 (φ r)))

@@ -14,7 +14,7 @@ use lib.ListN.{length}
 use Rattle.bencode.specs.declared.fault.Fault.{Fault}
 use Rattle.bencode.specs.declared.fault.Walk.{Walk}
 use Rattle.bencode.specs.declared.profile.Profile.{Profile}
-use Rattle.octets.specs.Bytes.{byteAt, part}
+use Rattle.octets.specs.Bytes.{byteAt, slice}
 use Rattle.bencode.specs.Walk.{payloadAt}
 use Rattle.octets.proofs.digits.DigitLaws.{lt-or-le}
 use Rattle.ipc.specs.declared.header.Header.{Header}
@@ -51,7 +51,7 @@ module _ (s : List ℕ) (n : ℕ) where
   unfolding lengthReading
   length-short h = rw (lt-leb (8 + n) (length s) h) refl
 
-  pub length-there : 8 + n ≤ length s → payloadReading (part s 8 (8 + n)) ≡ lengthReading s n
+  pub length-there : 8 + n ≤ length s → payloadReading (slice s 8 (8 + n)) ≡ lengthReading s n
   unfolding lengthReading
   length-there h = rw (le-leb (8 + n) (length s) h) refl
 
