@@ -3,7 +3,7 @@
 // Each program uses a part of it.
 #![allow(dead_code)]
 
-/// Limits; the header's comments say what each is of.
+/// Limits, as in the header.
 pub const HEADER_LENGTH: usize = 8;
 pub const LARGEST_PAYLOAD: usize = 32768;
 pub const LARGEST_FRAME: usize = HEADER_LENGTH + LARGEST_PAYLOAD;
@@ -55,49 +55,50 @@ pub const GIVEN_NOTHING: u32 = 0;
 pub const GIVEN_INTEGER: u32 = 1;
 pub const GIVEN_BYTES: u32 = 2;
 
-// Numbers of the keys, and the format of each one's value.
+// Numbers of the keys, and the format of each one's value. Where it is ignored, an answer names nothing and nothing is
+// handed in.
 /// Any value, as it is encoded; the key itself is the string at offset 9 of the frame.
-pub const UNLISTED: u32 = 0;
+pub const UNLISTED: u8 = 0;
 /// Integer 0 or 1.
-pub const AUTOMAP: u32 = 1;
+pub const AUTOMAP: u8 = 1;
 /// Integer 0 or 1.
-pub const AUTOSTART: u32 = 2;
+pub const AUTOSTART: u8 = 2;
 /// Ignored.
-pub const BAD_FORMAT: u32 = 3;
+pub const BAD_FORMAT: u8 = 3;
 /// Text.
-pub const DIRECTORY: u32 = 4;
+pub const DIRECTORY: u8 = 4;
 /// Integer.
-pub const DOWNLIMIT: u32 = 5;
+pub const DOWNLIMIT: u8 = 5;
 /// Text.
-pub const FAILED: u32 = 6;
+pub const FAILED: u8 = 6;
 /// Ignored.
-pub const GET_DOWNLIMIT: u32 = 7;
+pub const GET_DOWNLIMIT: u8 = 7;
 /// List of strings; read, not written.
-pub const GET_STATUS_ALL: u32 = 8;
+pub const GET_STATUS_ALL: u8 = 8;
 /// Ignored.
-pub const GET_UPLIMIT: u32 = 9;
+pub const GET_UPLIMIT: u8 = 9;
 /// List of torrents; read, not written.
-pub const INFO: u32 = 10;
+pub const INFO: u8 = 10;
 /// Ignored.
-pub const NOOP: u32 = 11;
+pub const NOOP: u8 = 11;
 /// Ignored.
-pub const NOT_SUPPORTED: u32 = 12;
+pub const NOT_SUPPORTED: u8 = 12;
 /// Integer 0 or 1.
-pub const PEX: u32 = 13;
+pub const PEX: u8 = 13;
 /// Integer 0 to 65535.
-pub const PORT: u32 = 14;
+pub const PORT: u8 = 14;
 /// List of torrent IDs, as it is encoded: `li3ei8ee`.
-pub const REMOVE: u32 = 15;
+pub const REMOVE: u8 = 15;
 /// List of torrent IDs.
-pub const START: u32 = 16;
+pub const START: u8 = 16;
 /// List of torrents; read, not written.
-pub const STATUS: u32 = 17;
+pub const STATUS: u8 = 17;
 /// List of torrent IDs.
-pub const STOP: u32 = 18;
+pub const STOP: u8 = 18;
 /// Ignored.
-pub const SUCCEEDED: u32 = 19;
+pub const SUCCEEDED: u8 = 19;
 /// Integer.
-pub const UPLIMIT: u32 = 20;
+pub const UPLIMIT: u8 = 20;
 
 /// The value of an answer. What the kind does not name is 0.
 #[repr(C)]
@@ -184,7 +185,9 @@ pub fn walk(payload: &[u8], strict: bool) -> WalkAnswer {
     unsafe { bogsilver_walk(payload.as_ptr(), payload.len(), strict) }
 }
 
-pub fn write(key: u32, given: Given, tag: u32, out: &mut [u8]) -> WriteAnswer {
+/// The key is one of the numbers above, or any u32.
+pub fn write(key: impl Into<u32>, given: Given, tag: u32, out: &mut [u8]) -> WriteAnswer {
+    let key = key.into();
     match given {
         Given::Nothing => write_numbers(key, GIVEN_NOTHING, 0, &[], tag, out),
         Given::Integer(integer) => write_numbers(key, GIVEN_INTEGER, integer, &[], tag, out),

@@ -1,5 +1,5 @@
--- Pinned by `ShowsValue` and `FindsField`; `ifInteger` is to be believed. The value of a key in a dictionary that has been
--- walked, by its kind and with its place.
+-- Pinned by `ShowsValue` and `FindsField`, `ifInteger` by ipc's `AnswersMeaning`. The value of a key in a dictionary that has
+-- been walked, by its kind and with its place.
 -- Assumes nothing.
 use Prim.Native.Nat.{ℕ, _+_}
 use mathlib.Core.Bool.{cond}

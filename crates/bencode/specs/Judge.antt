@@ -1,5 +1,6 @@
--- To be believed, for requests 06, 10 and 14; `OneAnswer` and `JudgesMeaning` say that it answers every payload, once. How a
--- payload of at most so many bytes is judged: by its length, then by the walk, then by what its value means.
+-- To be believed, for requests 06, 10 and 14; `OneAnswer` says that every payload has one answer, `JudgesMeaning` that an
+-- encoding not too long is answered by its value's meaning. How a payload of at most so many bytes is judged: by its length,
+-- then by the walk, then by what its value means.
 -- Assumes nothing.
 use Prim.Native.Nat.{ℕ, _≤_, _<_}
 use mathlib.Core.Path.{_≡_}

@@ -1,5 +1,5 @@
--- Which keys are allowed is pinned by `KeysOnce` and `KeysRise`; the codes are to be believed. The key rule: which keys may
--- follow which in a dictionary (document 01, 'The frame': in any order, and no key twice).
+-- Which keys are allowed is pinned by `KeysOnce` and `KeysRise`; the codes and `isFaultCode` are to be believed. The key rule:
+-- which keys may follow which in a dictionary (document 01, 'The frame': in any order, and no key twice).
 -- Assumes nothing.
 use Prim.Native.Nat.{ℕ}
 use mathlib.Core.Bool.{Bool, true, false, cond, _&&_, _||_}

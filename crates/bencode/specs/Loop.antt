@@ -1,5 +1,6 @@
--- Pinned by `Unrolls`: a loop is one step, and then the loop from where it ended. A loop over a payload, or over a list's items,
--- as a function; where each step ends further right, the number of steps below is enough.
+-- `repeatFrom` is pinned by `Unrolls`: a loop is one step, and then the loop from where it ended; `afterStep` is to be believed.
+-- `itemStep` is pinned by `AcceptsExactly`, `itemsFrom` by ipc's `AnswersMeaning`. A loop over a payload, or over a list's
+-- items, as a function; where each step ends further right, the number of steps below is enough.
 -- Assumes nothing.
 use Prim.Native.Nat.{ℕ, zero, suc, _+_, _-_, _<_, _≤_}
 use mathlib.Core.Path.{_≡_}
@@ -46,9 +47,8 @@ Past s at e = (at < e) × (e ≤ length s)
 abbrev pub Onward : {X A : Type 0} → List ℕ → (ℕ → X → LoopStep X A) → Type 0
 Onward {X} s step = (at : ℕ) (x : X) (to : ℕ) (y : X) → step at x ≡ next to y → Past s at to
 
--- where each step that goes on ends further right, a loop is one step and then the loop from where it ended: neither the
--- fuel nor
--- the answer for no end is ever met
+-- where each step that goes on ends further right, a loop is one step and then the loop from where it ended: neither the fuel
+-- nor the answer for no end is ever met
 abbrev pub Unrolls : Type 1
 Unrolls = (X A : Type 0) (s : List ℕ) (step : ℕ → X → LoopStep X A) → Onward s step → (d : ℕ → A) (at : ℕ) (x : X)
     → repeatFrom s step (d at) at x ≡ afterStep (step at x) (λ to y. repeatFrom s step (d to) to y)

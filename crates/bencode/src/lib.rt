@@ -1,5 +1,5 @@
 // Bencoded payloads: where a value ends or which byte is at fault, looking into a payload, and writing integers and strings.
-// Every function takes any bytes and any offset, of any length; a payload that was not walked has its answer too.
+// Every function takes any bytes, also a payload that was not walked, and any offset; what has no room is not stored.
 mod depth;
 mod entry;
 mod fault;

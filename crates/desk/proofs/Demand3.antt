@@ -1,6 +1,5 @@
--- Demand 3: each call is a step (`Steps`), the daemon takes the frames that the call wrote (`ReadsCommands`), and the
--- override that
--- stands is the record's.
+-- Demand 3: each call is a step (`Steps`), the daemon takes the frames that the call wrote (`ReadsCommands`), and the override
+-- that stands is the record's.
 -- Assumes nothing.
 use Prim.Native.Nat.{ℕ, _≤_}
 use native.Mathlib.Omega.{arith}

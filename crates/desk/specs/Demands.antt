@@ -72,8 +72,7 @@ pub record World (Record : Type 0) : Type 0 where
   pub standing : List ℕ
 
 -- a call: the daemon takes the lent buffer's first bytes as the call left them, as many as its count. A refused or held call
--- gives
--- it nothing: one with bytes is as bad as bytes that are no frames
+-- gives it nothing: one with bytes is as bad as bytes that are no frames
 unfoldable pub after : {R : Type 0} → Turn → World R → Answered R → World R
 after t w a =
     record {
@@ -117,9 +116,8 @@ abbrev pub Demand3 : Type 0
 Demand3 = Demand3For desk
 
 -- ---- demand 1, beside the promises of the functions
--- each number is given when its row holds and never otherwise: the first row before the room gives its code, 34 is given
--- where only
--- the room is short, and else the call is accepted, with 0 or held with 1
+-- each number is given when its row holds and never otherwise: the first row before the room gives its code, 34 is given where
+-- only the room is short, and else the call is accepted, with 0 or held with 1
 abbrev pub NumbersGivenFor : (Call → ℕ → Desk → ℕ) → Type 0
 NumbersGivenFor code = (c : Call) (room : ℕ) (d : Desk) → let bytes = length (framesOf (plan c d .sent)) in
     ((callFault c d ≡ 0 → ⊥) → code c room d ≡ callFault c d)
@@ -155,9 +153,8 @@ ListFixed = (c : Call) (room : ℕ) (d : Desk) → let next = outcome c room d .
 abbrev pub NoLonger : Type 0
 NoLonger = (c : Call) (room : ℕ) (d : Desk) → length (outcome c room d .sent) ≤ longestFrames
 
--- and one writes as many: after some accepted opening with 32 records and an accepted raise, the clear, whatever room from
--- 479 on
--- is lent
+-- and one writes as many: after some accepted opening with 32 records and an accepted raise, the clear, whatever room from 479
+-- on is lent
 abbrev pub LongestReached : Type 0
 LongestReached = (watch : List Watch) × (down : ℤ) × (up : ℤ) × (x : ℕ) × (length watch ≡ mostWatched) × (opening (length watch) watch down up .code ≡ 0)
     × ((room : ℕ) → longestFrames ≤ room → let raised = outcome (Call.Raise x) room (opening (length watch) watch down up .desk) in

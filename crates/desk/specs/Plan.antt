@@ -1,5 +1,6 @@
--- What the daemon becomes is pinned by `Demand3`; codes, which frames and their order are to be believed. What an accepted call
--- does: its code, the record after it and the commands it sends (document 01, 'The desk': routine, raise and clear).
+-- What the daemon becomes, and the record as far as a later call shows it, is pinned by `Demand3`, the list and the override by
+-- `ListFixed` and `OverrideMoves`; codes, which frames and their order are to be believed. What an accepted call does: its code,
+-- the record after it and the commands it sends (document 01, 'The desk': routine, raise and clear).
 -- Assumes nothing.
 use Prim.Native.Nat.{ℕ}
 use mathlib.Core.Bool.{Bool, true, false, cond}

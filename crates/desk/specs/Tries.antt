@@ -12,7 +12,7 @@ use lib.IntN.{ℤ, pos, negsuc}
 use Rattle.octets.specs.Ascii.{ascii}
 use Rattle.desk.specs.Machine.{Machine, handed}
 
--- what is seen of a machine: both limits, and which of the IDs 0 to 9 run
+-- what is shown of a machine: both limits, and which of the IDs 0 to 9 run
 pub record Shown : Type 0 where
   pub down : ℤ
   pub up : ℤ

@@ -1,4 +1,4 @@
-// The override desk of document 01: it keeps what is desired of the daemon, gives one transfer the whole link, and restores.
+// The override desk of document 01: it gives one transfer the whole link, and restores what is desired when that is over.
 // Every function takes any record and any buffer: what is bad is refused by document 01's numbers, and a refusal changes
 // nothing.
 mod call;

@@ -12,5 +12,5 @@ pub mod ReadsBack
 pub mod Worthless
 pub mod AgreesOnLargest
 pub mod RefusalKeeps
-pub mod HeaderAnswered
+pub mod HeadersAnswered
 pub mod RefusalHasNoKind

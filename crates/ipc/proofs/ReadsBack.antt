@@ -17,7 +17,7 @@ use Rattle.bencode.specs.Depth.{largestDepth}
 use Rattle.bencode.specs.Integers.{InRange}
 use Rattle.bencode.specs.Key.{isUsed, keyFault}
 use Rattle.bencode.specs.Value.{Value, integer, string, list, Values, no-value, value, encodeString, encode, WellFormed}
-use Rattle.octets.proofs.sequences.BeginsLaws.{part-begins}
+use Rattle.octets.proofs.sequences.BeginsLaws.{slice-begins}
 use Rattle.octets.proofs.sequences.Order.{clash}
 use Rattle.octets.proofs.general.Table.{at}
 use Rattle.octets.specs.Ascii.{ascii}
@@ -156,7 +156,7 @@ module _ (s : List ℕ) (at : ℕ) where
   ids-named f d b =
       let size : length (encode (list (d .ids))) ≡ length s = ap length (sym (d .is)) in
       let stands : slice f (headerLength + at) (headerLength + at + length (encode (list (d .ids)))) ≡ encode (list (d .ids)) =
-      part-begins f (headerLength + at) (headerLength + at + length (encode (list (d .ids)))) (encode (list (d .ids))) b in
+      slice-begins f (headerLength + at) (headerLength + at + length (encode (list (d .ids)))) (encode (list (d .ids))) b in
       (headerLength + at, ap (λ (k : ℕ). part (headerLength + at) k) size, ap (λ (k : ℕ). slice f (headerLength + at) (headerLength + at + k)) (sym size) ∙ stands ∙ sym (d .is))
 
   ids-handed : IdList s → Handed Class.IdList Given.Bytes s at

@@ -14,7 +14,7 @@ use Rattle.octets.specs.Bytes.{Begins}
 use Rattle.bencode.specs.Letters.{letterE, letterL}
 use Rattle.octets.specs.Numerals.{decimal}
 use Rattle.bencode.specs.Value.{Value, integer, string, list, dictionary, Values, encodeString, encode}
-use Rattle.octets.proofs.sequences.BeginsLaws.{part-begins}
+use Rattle.octets.proofs.sequences.BeginsLaws.{slice-begins}
 use Rattle.bencode.proofs.Lookups.{reads-string}
 use Rattle.octets.proofs.sequences.Order.{clash}
 use Rattle.bencode.specs.Integers.{within}
@@ -138,7 +138,7 @@ module _ (f : List ℕ) (at : ℕ) (x : Value) (h : MessageValue) where
   unfolding valueFits encodeGiven
   ids-again b vs p ids q =
       let c : Stands f at (list vs) = subst (λ (y : Value). Stands f at y) p b in
-      let s : bytesOf f (contentOf (wholeAt at (list vs))) ≡ encode (list vs) = part-begins f (headerLength + at) (headerLength + at + length (encode (list vs))) (encode (list vs)) c in
+      let s : bytesOf f (contentOf (wholeAt at (list vs))) ≡ encode (list vs) = slice-begins f (headerLength + at) (headerLength + at + length (encode (list vs))) (encode (list vs)) c in
       rw (p, q) (record { fits = id-list-exactly (bytesOf f (contentOf (wholeAt at (list vs)))) .1 (record { ids = vs; each = ids; is = s }); same = s })
 
   value-again : (class : Class) → allowed class ≡ true → (class ≡ Class.Ignored → ⊥) → Stands f at x → judged class at x ≡ Checked.Value h → Again f class x (contentOf h)

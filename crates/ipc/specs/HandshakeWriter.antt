@@ -1,5 +1,5 @@
--- To be believed: refusals, `version` alone, `min` before `max`; the range is pinned by `HandshakeReadsBack`. The writer of
--- handshakes (document 01, 'What the writer says').
+-- To be believed: refusals, `version` alone, `min` before `max`; the range and the count are pinned by `HandshakeReadsBack`. The
+-- writer of handshakes (document 01, 'What the writer says').
 -- Assumes nothing.
 use Prim.Native.Nat.{ℕ}
 use mathlib.Core.List.{List}

@@ -1,5 +1,6 @@
--- To be believed: refusals, `0:` for an ignored value, upper case. Else a frame's bytes are pinned by `ReadsBack` and
--- `WritesBack`, `isIdList` by `IdListExactly`. The writer of messages (document 01, 'What the writer says').
+-- To be believed: refusals, `0:` for an ignored value, the buffer past a frame. A frame's bytes are else pinned by `ReadsBack`
+-- and `WritesBack` (upper case: see Hex), a refused buffer by `RefusalKeeps`, `isIdList` by `IdListExactly`. The writer of
+-- messages (document 01, 'What the writer says').
 -- Assumes nothing.
 use Prim.Native.Nat.{ℕ, _+_}
 use mathlib.Core.Path.{_≡_}
@@ -7,7 +8,7 @@ use mathlib.Core.Bool.{Bool, true, false, cond, _&&_}
 use mathlib.Core.List.{List, [], _∷_, _++_, flatten}
 use lib.Dec.{eqb, leb}
 use lib.IntN.{ℤ, pos}
-use lib.ListN.{length, drop}
+use lib.ListN.{length}
 use Rattle.octets.specs.Bytes.{byteAt}
 use Rattle.octets.specs.Put.{atFront}
 use Rattle.bencode.specs.Letters.{letterE, letterL}

@@ -29,16 +29,16 @@ use Rattle.strip.proofs.records.Forward.{Forward, forward, Meets, again
 use Rattle.strip.proofs.running.StepsLeft.{stepsLeft, some-left, step-falls, over-after}
 
 -- ---- what steps print
-text-bytes : (t : List ℕ) → outputBytes (outputOf t) ≡ t
+output-bytes : (t : List ℕ) → outputBytes (outputOf t) ≡ t
 unfolding outputBytes outputOf
-text-bytes t = take-append-seam t (drop (length t) blank)
+output-bytes t = take-append-seam t (drop (length t) blank)
 
 -- what a step prints, and those after it
 abbrev Printing : ℕ → List ℕ → Step → List ℕ → Type 0
 Printing n s step t = outputBytes (step .output) ++ printedBy n s (step .run) ≡ t
 
 printing-then : (n : ℕ) (s text rest : List ℕ) (r : Run) → printedBy n s r ≡ rest → Printing n s (printing text r) (text ++ rest)
-printing-then n s text rest r e = ap₂ (λ (x y : List ℕ). x ++ y) (text-bytes text) e
+printing-then n s text rest r e = ap₂ (λ (x y : List ℕ). x ++ y) (output-bytes text) e
 
 printed-over : (n : ℕ) (s : List ℕ) (r : Run) → r .over ≡ true → printedBy n s r ≡ []
 unfolding printedBy

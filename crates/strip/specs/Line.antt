@@ -2,7 +2,7 @@
 -- Assumes nothing.
 use Prim.Native.Nat.{ℕ, _+_}
 use mathlib.Core.List.{List, [], _∷_, _++_, flatten}
-use lib.ListN.{length, take, drop, replicate}
+use lib.ListN.{length, take, replicate}
 use Rattle.octets.specs.Numerals.{decimal}
 use Rattle.octets.specs.Put.{atFront}
 use Rattle.octets.specs.Ascii.{ascii}
@@ -57,6 +57,6 @@ blank = replicate outputRoom 0
 unfoldable pub outputOf : List ℕ → Output
 outputOf text = record { bytes = atFront text blank; length = length text }
 
--- the bytes of a text
+-- the bytes of an output
 unfoldable pub outputBytes : Output → List ℕ
 outputBytes t = take (t .length) (t .bytes)

@@ -161,7 +161,7 @@ fn end_at(at: usize) -> Decoded
 }
 
 // What stands at an offset within a strip.
-fn whole_at(s: &[u8], at: usize, called: bool) -> Decoded
+fn whole_record_at(s: &[u8], at: usize, called: bool) -> Decoded
     requires { ⌜ at < length (now s) ⌝ }
     ensures { λ r. ⌜ r ≡ wholeRecordAt (now (s .entry)) at called ⌝ }
 {
@@ -186,5 +186,5 @@ pub fn record_at(s: &[u8], at: usize, called: bool) -> Decoded
     if s.len() <= at {
         return end_at(at);
     }
-    whole_at(s, at, called)
+    whole_record_at(s, at, called)
 }

@@ -21,7 +21,7 @@ use Rattle.bencode.specs.Integers.{integerFrom, integerAt, signed}
 use Rattle.bencode.specs.Value.{signedDecimal, encodeString}
 use Rattle.octets.proofs.digits.NumeralLaws.{inside, digits-stop, numeral-zero, numeral-digits}
 use Rattle.octets.proofs.digits.DecimalLaws.{decimal-small, digits-decimal, First, first}
-use Rattle.octets.proofs.sequences.BeginsLaws.{begins-rest, begins-left, begins-right, begins-head, begins-within, part-begins}
+use Rattle.octets.proofs.sequences.BeginsLaws.{begins-rest, begins-left, begins-right, begins-head, begins-within, slice-begins}
 
 module _ (s : List ℕ) where
   -- a number's digits begin with a digit
@@ -66,7 +66,7 @@ module _ (s : List ℕ) where
       let last : at + length (decimal (length text)) + 1 + length text ≡ e = omega (arith, t .ends) in (
         at + length (decimal (length text)) + 1,
         string-of at (at + length (decimal (length text))) (length text) e (numeral-reads at (length text) (at + length (decimal (length text))) l (no-digit (byteAt s (at + length (decimal (length text)))) (omega arith))) some colon (omega (arith, t .ends)) ∙ ap (λ (k : ℕ). Text.Bytes (at + length (decimal (length text)) + 1) k) last,
-        part-begins s (at + length (decimal (length text)) + 1) e text t,
+        slice-begins s (at + length (decimal (length text)) + 1) e text t,
         last,
       )
 

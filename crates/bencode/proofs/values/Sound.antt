@@ -31,7 +31,7 @@ use Rattle.bencode.specs.Value.{Value, integer, string, list, dictionary
 use Rattle.octets.proofs.digits.NumeralLaws.{inside, numeral-zero, numeral-digits}
 use Rattle.bencode.proofs.walking.Ends.{string-whole-inv, numeral-low, numeral-high, WholeInteger, SignedInteger, plus, minus, integer-inv}
 use Rattle.octets.proofs.digits.DecimalLaws.{decimal-small, spelt, digits-is}
-use Rattle.octets.proofs.sequences.BeginsLaws.{begins-byte, begins-join, begins-part, begins-head}
+use Rattle.octets.proofs.sequences.BeginsLaws.{begins-byte, begins-join, begins-slice, begins-head}
 
 -- the digits of a negative number
 pub neg-text : (n : ℕ) → (n ≡ 0 → ⊥) → signedDecimal (negℤ (pos n)) ≡ 45 ∷ decimal n
@@ -73,7 +73,7 @@ module _ (s : List ℕ) where
       (subst (λ (k : ℕ). Begins s at (decimal k) (numeralAt s at .end)) n (numeral-begins at (w .some)))
       (begins-join s (numeralAt s at .end) start end (58 ∷ []) (slice s start end)
       (subst (λ (k : ℕ). Begins s (numeralAt s at .end) (58 ∷ []) k) (w .numeral-end) (begins-byte s (numeralAt s at .end) 58 (w .colon) (omega arith)))
-      (begins-part s start end (w .ordered) (w .within)))
+      (begins-slice s start end (w .ordered) (w .within)))
 
   -- an integer's digits and its `e`
   digits-begin : (from : ℕ) (negative : Bool) (z : ℤ) (end : ℕ) → WholeInteger s from negative z end → Begins s from (decimal (numeralAt s from .number) ++ (101 ∷ [])) end

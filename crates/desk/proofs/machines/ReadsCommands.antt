@@ -40,9 +40,9 @@ limit-range (pos n) h = omega (arith, leb-true n 1000000 h)
 limit-range (negsuc n) h = omega (arith, leb-true n 0 (both (leb n 0) _ h .0))
 
 -- ---- bytes of a frame are the same bytes of what begins with it
-part-append : (frame rest s : List ℕ) (at : ℕ) → 1 ≤ length s → slice frame at (at + length s) ≡ s
+slice-append : (frame rest s : List ℕ) (at : ℕ) → 1 ≤ length s → slice frame at (at + length s) ≡ s
     → slice (frame ++ rest) at (at + length s) ≡ s
-part-append frame rest s at some-bytes e =
+slice-append frame rest s at some-bytes e =
     let n : at + length s - at ≡ length s = omega arith in
     let whole : take (length s) (drop at frame) ≡ s = ap (λ (k : ℕ). take k (drop at frame)) (sym n) ∙ e in
     let size : length s ≤ length (drop at frame) = omega (arith, length-take (length s) (drop at frame), ap length whole) in
@@ -89,7 +89,7 @@ module _ (tag : ℕ) (small : tag ≤ largestTag) where
         answer = r .1;
         command =
             ap (contentCommand (idsFrame tag key ids ++ rest) key) named
-            ∙ ap (λ (l : List ℕ). idsCommand key (idsIn l)) (part-append (idsFrame tag key ids) rest (idList ids) at (list-bytes ids) (r .2 .2))
+            ∙ ap (λ (l : List ℕ). idsCommand key (idsIn l)) (slice-append (idsFrame tag key ids) rest (idList ids) at (list-bytes ids) (r .2 .2))
             ∙ ap (idsCommand key) (ids-read ids (h .0))
             ∙ e;
       }

@@ -41,15 +41,15 @@ module _ (s : List ℕ) where
   pub begins-head : (at b e : ℕ) (bs : List ℕ) → Begins s at (b ∷ bs) e → byteAt s at ≡ b
   begins-head at b e bs h = ap (λ (k : ℕ). getD s k 0) (sym (add-zero at)) ∙ sym (getD-drop at s 0 0) ∙ ap (λ (l : List ℕ). getD l 0 0) (h .is)
 
-  pub begins-part : (at e : ℕ) → at ≤ e → e ≤ length s → Begins s at (slice s at e) e
-  begins-part at e p q = record {
+  pub begins-slice : (at e : ℕ) → at ≤ e → e ≤ length s → Begins s at (slice s at e) e
+  begins-slice at e p q = record {
     rest = drop (e - at) (drop at s);
     is = sym (take-append-drop (e - at) (drop at s));
     ends = omega (arith, length-take-le (e - at) (drop at s) (omega (arith, length-drop at s)));
   }
 
-  pub part-begins : (at e : ℕ) (x : List ℕ) → Begins s at x e → slice s at e ≡ x
-  part-begins at e x b =
+  pub slice-begins : (at e : ℕ) (x : List ℕ) → Begins s at x e → slice s at e ≡ x
+  slice-begins at e x b =
       let n : e - at ≡ length x = omega (arith, b .ends) in
       ap (λ (k : ℕ). take k (drop at s)) n ∙ ap (λ (l : List ℕ). take (length x) l) (b .is) ∙ take-append-seam x (b .rest)
 

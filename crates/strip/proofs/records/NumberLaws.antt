@@ -25,13 +25,13 @@ below-fits m h = record { sfits = h }
 
 -- the two ways of a number
 module _ (n : ℕ) where
-  pub signed-low : n < 2147483648 → toZ w32 n ≡ twosComplement n
+  pub twos-low : n < 2147483648 → toZ w32 n ≡ twosComplement n
   unfolding twosComplement
-  signed-low h = toZ-pos w32 {n = n} h ∙ sym (rw (lt-ltb n 2147483648 h) refl)
+  twos-low h = toZ-pos w32 {n = n} h ∙ sym (rw (lt-ltb n 2147483648 h) refl)
 
-  pub signed-high : 2147483648 ≤ n → negsuc (4294967295 - n) ≡ twosComplement n
+  pub twos-high : 2147483648 ≤ n → negsuc (4294967295 - n) ≡ twosComplement n
   unfolding twosComplement
-  signed-high h = rw (le-ltb n 2147483648 h) refl
+  twos-high h = rw (le-ltb n 2147483648 h) refl
 
 -- a number of 32 bits, as the machine has it
 pub machine : (z : ℤ) → mag z < 2147483648 → toZ w32 (ofZ w32 z) ≡ z

@@ -18,13 +18,13 @@ end-at-requires c κs = search needs
 returns-2 : tie.Need-returns-2
 returns-2 c = c .end-at .ensures ∙ sym (record-end (c .before .before .before .before .args .s .now) (c .before .before .before .before .args .at) (c .before .before .before .before .args .called) (c .before .before .if1 .left) (c .before .if2 .taken))
 
-whole-at-requires : tie.Need-whole-at-requires
-whole-at-requires c κs = search needs
+whole-record-at-requires : tie.Need-whole-record-at-requires
+whole-record-at-requires c κs = search needs
 
 returns-3 : tie.Need-returns-3
-returns-3 c = c .whole-at .ensures ∙ sym (record-whole (c .before .before .before .before .args .s .now) (c .before .before .before .before .args .at) (c .before .before .before .before .args .called) (c .before .before .if1 .left) (c .before .if2 .left))
+returns-3 c = c .whole-record-at .ensures ∙ sym (record-whole (c .before .before .before .before .args .s .now) (c .before .before .before .before .args .at) (c .before .before .before .before .args .called) (c .before .before .if1 .left) (c .before .if2 .left))
 
 pub record-at-spec : {M : Type 1} → statement M
 record-at-spec =
     tie.close
-    (tie.spec fault-at-requires returns end-at-requires returns-2 whole-at-requires returns-3)
+    (tie.spec fault-at-requires returns end-at-requires returns-2 whole-record-at-requires returns-3)

@@ -1,16 +1,18 @@
--- A fault of the header, or of the length that it says, is the reader's answer.
+-- A fault of the header, or of the length that it says, is the reader's answer; else the length is within the limit.
 -- Assumes nothing.
-use Prim.Native.Nat.{ℕ}
+use Prim.Native.Nat.{ℕ, _≤_}
 use mathlib.Core.Path.{_≡_, refl}
 use mathlib.Core.Bool.{Bool, true, false, cond}
 use mathlib.Core.List.{List}
+use native.Mathlib.Omega.{arith}
+use borrow.Author.Tests.{ltb-false}
 use lib.Dec.{ltb}
 use Rattle.ipc.specs.declared.header.Header.{Header}
 use Rattle.ipc.specs.declared.header.Sized.{Sized}
 use Rattle.ipc.specs.Answer.{refused, answerOf}
 use Rattle.ipc.specs.Header.{largestPayload, protocolPayload, readHeader, headerCode, headerOffset, sized, lengthCode}
 use Rattle.ipc.specs.Reader.{bySize, byHeader, frameReading, readFrame}
-use Rattle.ipc.specs.Demands.{HeaderAnswered}
+use Rattle.ipc.specs.Demands.{HeadersAnswered}
 
 by-header : (s : List ℕ) (h : Header) → (headerCode h ≡ 0 → ⊥) → answerOf (byHeader s h) ≡ refused (headerCode h) (headerOffset h)
 by-header s (Header.Length n) k = absurd (k refl)
@@ -26,6 +28,25 @@ by-length s n k = go (ltb protocolPayload n) (ltb largestPayload n) k
     go false true k = refl
     go false false k = absurd (k refl)
 
-pub header-answered : HeaderAnswered
+says-length : (h : Header) → headerCode h ≡ 0 → (n : ℕ) × (h ≡ Header.Length n)
+says-length (Header.Length n) k = (n, refl)
+says-length (Header.NoDigit at) k = absurd (omega arith)
+says-length Header.Short k = absurd (omega arith)
+
+within-limit : (n : ℕ) → lengthCode n ≡ 0 → n ≤ largestPayload
+within-limit n k = go (ltb protocolPayload n) (ltb largestPayload n) refl k
+  where
+    go : (t u : Bool) → ltb largestPayload n ≡ u → _≡_ {A = ℕ} (cond t 3 (cond u 4 0)) 0 → n ≤ largestPayload
+    go true u e k = absurd (omega arith)
+    go false true e k = absurd (omega arith)
+    go false false e k = ltb-false largestPayload n e
+
+pub headers-answered : HeadersAnswered
 unfolding readFrame frameReading
-header-answered s = (by-header s (readHeader s), λ n e k. rw e (by-length s n k))
+headers-answered s =
+    record {
+      fault = by-header s (readHeader s);
+      says = says-length (readHeader s);
+      long = λ n e k. rw e (by-length s n k);
+      short = within-limit;
+    }

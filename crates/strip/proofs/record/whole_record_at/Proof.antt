@@ -1,4 +1,4 @@
--- `strip::record::whole_at` meets its contract.
+-- `strip::record::whole_record_at` meets its contract.
 -- Assumes nothing.
 use mathlib.Core.Path.{_≡_, sym, ap, _∙_}
 use mathlib.Core.Bool.{true, false}
@@ -8,8 +8,8 @@ use Rattle.octets.specs.Bytes.{byteAt}
 use Rattle.strip.specs.Record.{mayStand, bodyLength}
 use Rattle.strip.proofs.records.RecordLaws.{whole-stray, whole-cut, whole-there}
 use borrow.Author.Needs.{needs}
-use Rattle.strip.proofs.record.whole_at.Statement.{statement}
-use Rattle.strip.proofs.record.whole_at.Tie as tie
+use Rattle.strip.proofs.record.whole_record_at.Statement.{statement}
+use Rattle.strip.proofs.record.whole_record_at.Tie as tie
 
 stray : (c : tie.Then1) → mayStand (eqb (c .before .before .before .before .args .at) 0) (c .before .before .before .before .args .called) (byteAt (c .before .before .before .before .args .s .now) (c .before .before .before .before .args .at)) ≡ false
 stray c = rw (c .before .before .byte-at .ensures) at (sym (c .before .may-stand .ensures) ∙ not-true (c .before .may-stand .result) (c .if1 .taken))
@@ -62,8 +62,8 @@ placed-requires c κs = search needs
 returns-3 : tie.Need-returns-3
 returns-3 c = c .placed .ensures ∙ rw (c .before .body-at .ensures, c .before .before .before .before .before .before .byte-at .ensures, body (c .before .before .before)) (sym (whole-there (c .before .before .before .before .before .before .before .before .args .s .now) (c .before .before .before .before .before .before .before .before .args .at) (c .before .before .before .before .before .before .before .before .args .called) (stands (c .before .before .before .before)) (rw (body (c .before .before .before)) at (c .before .before .if2 .left))))
 
-pub whole-at-spec : {M : Type 1} → statement M
-whole-at-spec =
+pub whole-record-at-spec : {M : Type 1} → statement M
+whole-record-at-spec =
     tie.close
     (tie.spec
     byte-at-requires
