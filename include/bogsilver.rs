@@ -3,7 +3,7 @@
 // Each program uses a part of it.
 #![allow(dead_code)]
 
-/// Limits, as in the header.
+/// Limits, as in bogsilver.h.
 pub const HEADER_LENGTH: usize = 8;
 pub const LARGEST_PAYLOAD: usize = 32768;
 pub const LARGEST_FRAME: usize = HEADER_LENGTH + LARGEST_PAYLOAD;
@@ -185,7 +185,7 @@ pub fn walk(payload: &[u8], strict: bool) -> WalkAnswer {
     unsafe { bogsilver_walk(payload.as_ptr(), payload.len(), strict) }
 }
 
-/// The key is one of the numbers above, or any u32.
+/// The key is one of the numbers above, or any u32; a bare number needs its type, as `14u32`.
 pub fn write(key: impl Into<u32>, given: Given, tag: u32, out: &mut [u8]) -> WriteAnswer {
     let key = key.into();
     match given {
@@ -197,7 +197,7 @@ pub fn write(key: impl Into<u32>, given: Given, tag: u32, out: &mut [u8]) -> Wri
 
 /// The writer with the kind of value as a number, which may be none.
 pub fn write_numbers(
-    key: u32,
+    key: impl Into<u32>,
     kind: u32,
     integer: i64,
     bytes: &[u8],
@@ -207,7 +207,7 @@ pub fn write_numbers(
     // SAFETY: each pointer and the length after it are those of one slice, and the two slices are apart.
     unsafe {
         bogsilver_write(
-            key,
+            key.into(),
             kind,
             integer,
             bytes.as_ptr(),

@@ -1,6 +1,6 @@
--- What a command says is pinned by `Demand3`, the longest by `NoLonger` and `LongestReached`; no tag, no frame for no ID, and
--- the order of IDs in a frame are to be believed. The commands that the desk sends, and their frames as the frame writer writes
--- them (document 01, 'The desk').
+-- What a command says is pinned by `Demand3`, its key number by `DaemonTried`, the longest by `NoLonger` and `LongestReached`;
+-- no tag, and no frame for no ID, are to be believed. The commands that the desk sends, and their frames as the frame writer
+-- writes them (document 01, 'The desk').
 -- Assumes nothing.
 use Prim.Native.Nat.{ℕ, _≤_}
 use mathlib.Core.Path.{_≡_}

@@ -30,7 +30,7 @@ shown (some m) = some (record { down = m .down; up = m .up; running = runningOf 
 unfoldable pub before : Machine
 before = record { down = pos 1; up = pos 2; runs = λ x. eqb x 3 || eqb x 5 }
 
--- bytes, and what is seen of the machine after them: none where they are not to be sent
+-- bytes, and what is shown of the machine after them: none where they are not to be sent
 pub record Try : Type 0 where
   pub bytes : String
   pub after : Option Shown

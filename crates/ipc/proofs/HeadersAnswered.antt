@@ -2,17 +2,18 @@
 -- Assumes nothing.
 use Prim.Native.Nat.{ℕ, _≤_}
 use mathlib.Core.Path.{_≡_, refl}
+use mathlib.Core.Logic.{_↔_}
 use mathlib.Core.Bool.{Bool, true, false, cond}
 use mathlib.Core.List.{List}
 use native.Mathlib.Omega.{arith}
-use borrow.Author.Tests.{ltb-false}
+use borrow.Author.Tests.{ltb-false, le-ltb}
 use lib.Dec.{ltb}
 use Rattle.ipc.specs.declared.header.Header.{Header}
 use Rattle.ipc.specs.declared.header.Sized.{Sized}
 use Rattle.ipc.specs.Answer.{refused, answerOf}
 use Rattle.ipc.specs.Header.{largestPayload, protocolPayload, readHeader, headerCode, headerOffset, sized, lengthCode}
 use Rattle.ipc.specs.Reader.{bySize, byHeader, frameReading, readFrame}
-use Rattle.ipc.specs.Demands.{HeadersAnswered}
+use Rattle.ipc.specs.Demands.{HeaderAnswered, HeadersAnswered}
 
 by-header : (s : List ℕ) (h : Header) → (headerCode h ≡ 0 → ⊥) → answerOf (byHeader s h) ≡ refused (headerCode h) (headerOffset h)
 by-header s (Header.Length n) k = absurd (k refl)
@@ -28,25 +29,36 @@ by-length s n k = go (ltb protocolPayload n) (ltb largestPayload n) k
     go false true k = refl
     go false false k = absurd (k refl)
 
-says-length : (h : Header) → headerCode h ≡ 0 → (n : ℕ) × (h ≡ Header.Length n)
-says-length (Header.Length n) k = (n, refl)
-says-length (Header.NoDigit at) k = absurd (omega arith)
-says-length Header.Short k = absurd (omega arith)
+says-length : (h : Header) → (headerCode h ≡ 0) ↔ ((n : ℕ) × (h ≡ Header.Length n))
+says-length h = (there h, λ p. rw (p .1) refl)
+  where
+    there : (h : Header) → headerCode h ≡ 0 → (n : ℕ) × (h ≡ Header.Length n)
+    there (Header.Length n) k = (n, refl)
+    there (Header.NoDigit at) k = absurd (omega arith)
+    there Header.Short k = absurd (omega arith)
 
-within-limit : (n : ℕ) → lengthCode n ≡ 0 → n ≤ largestPayload
-within-limit n k = go (ltb protocolPayload n) (ltb largestPayload n) refl k
+no-place : (h : Header) → headerCode h ≡ 0 → headerOffset h ≡ 0
+no-place (Header.Length n) k = refl
+no-place (Header.NoDigit at) k = absurd (omega arith)
+no-place Header.Short k = refl
+
+within-limit : (n : ℕ) → (lengthCode n ≡ 0) ↔ (n ≤ largestPayload)
+within-limit n = (λ k. go (ltb protocolPayload n) (ltb largestPayload n) refl k, λ h. rw (le-ltb protocolPayload n (omega arith), le-ltb largestPayload n h) refl)
   where
     go : (t u : Bool) → ltb largestPayload n ≡ u → _≡_ {A = ℕ} (cond t 3 (cond u 4 0)) 0 → n ≤ largestPayload
     go true u e k = absurd (omega arith)
     go false true e k = absurd (omega arith)
     go false false e k = ltb-false largestPayload n e
 
-pub headers-answered : HeadersAnswered
+one-header : (s : List ℕ) → HeaderAnswered s
 unfolding readFrame frameReading
-headers-answered s =
+one-header s =
     record {
       fault = by-header s (readHeader s);
       says = says-length (readHeader s);
+      place = no-place (readHeader s);
       long = λ n e k. rw e (by-length s n k);
-      short = within-limit;
     }
+
+pub headers-answered : HeadersAnswered
+headers-answered = (one-header, within-limit)

@@ -100,16 +100,16 @@ AnswersByRowFor read = (s : List ℕ) (a : Answer) → (read s ≡ a) ↔ Answer
 abbrev pub AnswersByRow : Type 0
 AnswersByRow = AnswersByRowFor readFrame
 
--- a fault of the header, or of the length that it says, is the reader's answer; where it has none it says a length, and that is
--- within the limit
+-- a fault of the header, or of the length that it says, is the reader's answer, and where it has none it says a length
 pub record HeaderAnswered (s : List ℕ) : Type 0 where
   pub fault : (headerCode (readHeader s) ≡ 0 → ⊥) → readFrame s ≡ refused (headerCode (readHeader s)) (headerOffset (readHeader s))
-  pub says : headerCode (readHeader s) ≡ 0 → (n : ℕ) × (readHeader s ≡ Header.Length n)
+  pub says : (headerCode (readHeader s) ≡ 0) ↔ ((n : ℕ) × (readHeader s ≡ Header.Length n))
+  pub place : headerCode (readHeader s) ≡ 0 → headerOffset (readHeader s) ≡ 0
   pub long : (n : ℕ) → readHeader s ≡ Header.Length n → (lengthCode n ≡ 0 → ⊥) → readFrame s ≡ refused (lengthCode n) 0
-  pub short : (n : ℕ) → lengthCode n ≡ 0 → n ≤ largestPayload
 
+-- a length is taken exactly where it is within the limit
 abbrev pub HeadersAnswered : Type 0
-HeadersAnswered = (s : List ℕ) → HeaderAnswered s
+HeadersAnswered = ((s : List ℕ) → HeaderAnswered s) × ((n : ℕ) → (lengthCode n ≡ 0) ↔ (n ≤ largestPayload))
 
 -- ---- writing
 -- bytes that are the encoding of a list of torrent IDs
