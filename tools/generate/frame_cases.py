@@ -565,6 +565,19 @@ def long_values():
     yield writing(11, 2, 0, 0, MAX_BODY, long)
 
 
+def decimal_borders():
+    """Integers, tags and lengths at each power of ten, and each digit at each place."""
+    numbers = {digit * 10**place + step for place in range(19)
+               for digit in range(1, 10) for step in (-1, 0)}
+    for number in sorted(n for n in numbers if n < 2**63):
+        yield writing(5, 1, number, 0, 99)
+        yield writing(20, 1, -number, 0, 99)
+        if number <= LARGEST:
+            yield writing(19, 0, 0, number, 99)
+    for place, step in itertools.product(range(1, 5), (-1, 0)):
+        yield writing(6, 2, 0, 0, MAX_BODY, b"t" * (10**place + step))
+
+
 def random_writings(chance, count):
     for _ in range(count):
         key = chance.below(22)
@@ -607,7 +620,7 @@ def write_cases():
     return itertools.chain(
         kinds_and_values(), tags_and_rooms(), faults_together(),
         long_values(), random_writings(chance, 600), handshake_writings(),
-        agreements(chance))
+        agreements(chance), decimal_borders())
 
 
 def main(folder):
