@@ -1,101 +1,140 @@
 #!/usr/bin/env python3
-"""Lists each division and remainder in Rattle source whose divisor is not seen to be a power of two.
+"""Lists each division and remainder whose divisor is not seen to be a power of two.
 
-Usage: tools/divisions.py FOLDER..
-Prints `FILE:LINE: the line` for each, or how many files and operators were seen. Exit status 1 if one is listed.
+Usage: tools/divisions.py source FOLDER..    in Rattle source: `FILE:LINE: the line` for each
+       tools/divisions.py mir NAME           in what `rt mir` prints, handed in: `NAME: FUNCTION: the divisor` for each
 
-A divisor is seen to be one if it is such a literal, or a constant: every declaration of its name in the folders is such a
-literal, and no variable has the name. Anything else is listed: brackets, sums after `/=`, numbers with a point. Comments, byte
-literals and the facts of contracts are no code.
+Prints how many were seen if none is listed; else ends with status 1. MIR, the form that is compiled, has names resolved and has
+the functions of the toolchain's libraries that are called. What the compiler itself computes, as a constant's value, stands in
+source only.
+
+In source a divisor is seen to be a power of two if it is such a literal, or the name of a constant that stands in the same file
+outside every block and is such a literal. Anything else is listed. Comments, byte literals and the facts of contracts are no
+code; what cannot be told from code is listed too.
 """
 import pathlib
 import re
 import sys
 
-NO_CODE = re.compile(r"""//[^\n]*|/\*|b"(?:\\.|[^"\\])*"|b'(?:\\.|[^'\\])+'|⌜[^⌝]*⌝|ghost use [^;]*;""", re.S)
+# A fact that holds a comment of antt's is left as it is, and so is listed by its brackets.
+NO_CODE = re.compile(
+    r"""//[^\n]*|/\*|\bbr(#*)".*?"\1|\bb"(?:\\.|[^"\\])*"|\bb'(?:\\.|[^'\\])+'"""
+    r"""|⌜(?:(?!--|\{-)[^⌜⌝])*⌝|\bghost\s+use\s[^;]*;""", re.S)
 COMMENT_BORDER = re.compile(r"/\*|\*/")
-CONSTANT = re.compile(r"\bconst\s+(\w+)\s*:[^=;]+=([^;]*);")
-VARIABLE = re.compile(r"(?:\b(?:let|mut|for)\s|[(,])\s*(\w+)\s*(?::(?!:)|=|in\b)")
-OPERATOR = re.compile(r"[/%](=?)\s*")
-DIVISOR = re.compile(r"(\w+(?:\s*::\s*\w+)*)(?:\s+as\s+\w+)*")
-# A call, an index or a field makes another number of what stands before it; `..` is a range.
-CONTINUED = re.compile(r"\s*(?:\(|\[|::|\.(?!\.))")
-STATEMENT_END = re.compile(r"\s*[;}]")
-LITERAL = re.compile(r"(0x[0-9a-f]+|0o[0-7]+|0b[01]+|[0-9]+)(?:[iu](?:8|16|32|64|size))?")
+CONSTANT = re.compile(r"^(?:pub\s+)?const\s+(\w+)\s*:[^=;]+=([^;]*);", re.M)
+OPERATOR = re.compile(r"[/%](=?)\s*|[⌜⌝]")
+DIVISOR = re.compile(r"(\w+)(?:\s+as\s+\w+)*")
+# A path, a call, an index or a field makes another number of what stands before it; `..` is a range.
+CONTINUED = re.compile(r"\s*(?:::|\(|\[|\.(?!\.))")
+STATEMENT_END = re.compile(r"\s*[;,)}]")
+LITERAL = re.compile(r"(0x[0-9a-f_]+|0o[0-7_]+|0b[01_]+|[0-9][0-9_]*)(?:[iu](?:8|16|32|64|size))?")
+TOKEN = re.compile(r'"[^"]*"|[()]|[^\s()"]+')
+
+
+def is_power(number):
+    return number & (number - 1) == 0 < number
+
+
+def is_power_literal(text):
+    literal = LITERAL.fullmatch(text.strip().lower())
+    if not literal:
+        return False
+    digits = literal.group(1).replace("_", "")
+    base = {"0x": 16, "0o": 8, "0b": 2}.get(digits[:2], 10)
+    return is_power(int(digits, base))
 
 
 def comment_end(text, at):
-    """Where a block comment ends whose inside starts at an offset; it may hold others."""
+    """Where a block comment ends whose inside starts at an offset, or None; it may hold others."""
     depth = 1
-    while depth and (border := COMMENT_BORDER.search(text, at)):
+    while border := COMMENT_BORDER.search(text, at):
         depth += 1 if border.group() == "/*" else -1
         at = border.end()
-    return len(text) if depth else at
+        if depth == 0:
+            return at
+    return None
 
 
 def code_of(text):
-    """The text with spaces for all that is no code, each line where it was."""
+    """The text with spaces for all that is no code, each line where it was. A comment that does not end stays."""
     code, at = "", 0
     while part := NO_CODE.search(text, at):
         end = comment_end(text, part.end()) if part.group() == "/*" else part.end()
+        if end is None:
+            break
         code += text[at:part.start()] + re.sub(r"[^\n]", " ", text[part.start():end])
         at = end
     return code + text[at:]
 
 
-def is_power(text):
-    """Is a text a literal that is a power of two."""
-    literal = LITERAL.fullmatch(text.strip().replace("_", "").lower())
-    if not literal:
-        return False
-    number = literal.group(1)
-    value = int(number, 0 if number[:2] in ("0x", "0o", "0b") else 10)
-    return value & (value - 1) == 0 < value
-
-
-def constants_of(codes):
-    """The names that stand for powers of two wherever they are declared."""
-    declared = {}
-    for code in codes:
-        for name, value in CONSTANT.findall(code):
-            declared.setdefault(name, []).append(is_power(value))
-        for name in VARIABLE.findall(code):
-            declared.setdefault(name, []).append(False)
-    return {name for name, powers in declared.items() if all(powers)}
-
-
 def divides_by_power(code, operator, constants):
     """Is the divisor after an operator a power of two."""
     divisor = DIVISOR.match(code, operator.end())
-    if not divisor or CONTINUED.match(code, divisor.end()):
+    if operator.group() in "⌜⌝" or not divisor or CONTINUED.match(code, divisor.end()):
         return False
     if operator.group(1) and not STATEMENT_END.match(code, divisor.end()):
         return False
-    return is_power(divisor.group(1)) or re.split(r"\s*::\s*", divisor.group(1))[-1] in constants
+    return is_power_literal(divisor.group(1)) or divisor.group(1) in constants
 
 
-def main(folders):
+def in_source(folders):
+    """How many operators the folders' source has, and a line for each that is listed."""
     files = sorted(file for folder in folders for file in pathlib.Path(folder).rglob("*.rt"))
-    texts = [file.read_text(encoding="utf8") for file in files]
-    codes = [code_of(text) for text in texts]
-    constants = constants_of(codes)
-    seen, listed = 0, 0
-    for file, text, code in zip(files, texts, codes):
-        lines = text.split("\n")
+    seen, listed = 0, [] if files else ["no source"]
+    for file in files:
+        text = file.read_text(encoding="utf8")
+        code, lines = code_of(text), text.split("\n")
+        constants = {name for name, value in CONSTANT.findall(code) if is_power_literal(value)}
         for operator in OPERATOR.finditer(code):
             seen += 1
             if not divides_by_power(code, operator, constants):
                 number = code.count("\n", 0, operator.start())
-                print(f"{file}:{number + 1}: {lines[number].strip()}")
-                listed += 1
-    if not files:
-        print("no source in", *folders)
-    elif not listed:
-        print(f"source: {len(files)} files, {seen} divisions and remainders, each by a power of two")
-    return 0 if files and not listed else 1
+                listed.append(f"{file}:{number + 1}: {lines[number].strip()}")
+    return seen, listed
+
+
+def operand_end(tokens, at):
+    """Where the operand ends that starts at an index: a word, or all from a bracket to its partner."""
+    depth = 0
+    while True:
+        depth += {"(": 1, ")": -1}.get(tokens[at], 0)
+        at += 1
+        if depth == 0:
+            return at
+
+
+def in_mir(crate, text):
+    """How many divisions and remainders a crate's MIR has, and a line for each that is listed."""
+    tokens = TOKEN.findall(text)
+    function, seen, listed = "", 0, []
+    for at, token in enumerate(tokens):
+        if tokens[at - 1] == "fn-def":
+            function = token.strip('"')
+        if token in ("floatDiv", "floatRem"):
+            seen += 1
+            listed.append(f"{crate}: {function}: {token}")
+        # (op2 (div SIGN) DIVIDEND DIVISOR)
+        if token in ("div", "rem") and tokens[at - 2] == "op2":
+            seen += 1
+            start = operand_end(tokens, at + 3)
+            divisor = tokens[start:operand_end(tokens, start)]
+            if divisor[1] != "int" or not is_power(int(divisor[3])):
+                listed.append(f"{crate}: {function}: {token} by {' '.join(divisor)}")
+    if not function:
+        listed.append(f"{crate}: no functions")
+    return seen, listed
+
+
+def main(arguments):
+    if len(arguments) > 1 and arguments[0] == "source":
+        what, (seen, listed) = "source", in_source(arguments[1:])
+    elif len(arguments) == 2 and arguments[0] == "mir":
+        what, (seen, listed) = f"compiled: {arguments[1]}", in_mir(arguments[1], sys.stdin.read())
+    else:
+        sys.exit("usage: tools/divisions.py source FOLDER.. | tools/divisions.py mir NAME")
+    print("\n".join(listed) or f"{what}: {seen} divisions and remainders, each by a power of two")
+    return 1 if listed else 0
 
 
 if __name__ == "__main__":
-    if len(sys.argv) < 2:
-        sys.exit("usage: tools/divisions.py FOLDER..")
     sys.exit(main(sys.argv[1:]))

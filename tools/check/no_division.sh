@@ -1,13 +1,12 @@
 #!/bin/sh
-# Tries tools/no_division.sh in a small tree of its own: each division that is put in is found, in source and in machine code,
-# and what may stand is passed. Takes half a minute; needs rt, gcc and Python.
+# Tries tools/no_division.sh in a small tree of its own: each division that is put in is found, in source, in what is compiled
+# and in machine code, and what may stand is passed. Takes half a minute; needs rt, Python, gcc, ar and objdump.
 set -eu
-cd "$(dirname "$0")/../.."
+CDPATH= cd -- "$(dirname -- "$0")/../.."
 tree=$(mktemp -d)
 trap 'rm -rf "$tree"' EXIT
 mkdir -p "$tree/tools" "$tree/crates/c_api/src" "$tree/crates/override_desk/src"
 cp tools/no_division.sh tools/divisions.py tools/library.sh "$tree/tools"
-cp override-desk "$tree"
 cd "$tree"
 printf 'c_api:\noverride_desk: io libc\n' >crates.txt
 
@@ -24,30 +23,34 @@ says() {
     [ "$status" -eq "$1" ] || fail "status $status of $2"
 }
 
-# The library: what may stand, and on the lines marked `found` what may not.
+# Source: on the lines marked `found` what may not stand, on the others what may.
+says 1 source
+grep -qx 'no source' said.txt || fail "no source at all"
 cat >crates/c_api/src/lib.rt <<'SOURCE'
 // n / 10, a comment /* and no other
 /* n / 10 /* n % 10 */ // n / 10 */
-const SIXTEEN: u64 = 0x1_0;
-const EITHER: u64 = 16;
-const SHADOWED: u64 = 16;
+use other::TEN as RENAMED;
+pub const SIXTEEN: u64 = 0x1_0;
 const SUM: u64 = 8 + 8;
+const _4: u64 = 10;
+const TENTH: u64 = 1000 / 10; // found
 struct Size(u64);
 impl Size {
     const UNIT: u64 = 64u64;
-    const EITHER: u64 = 10;
 }
 fn slash<'a>(s: &'a [u8], t: &'a [u8]) -> bool { s[0] == b'/' && t[0] == b'\'' && 10 % 8 == 2 }
 fn text(n: u64) -> u64 requires { ⌜ n % 10 < 5 ⌝ } { let s = b"\"1 / 10"; n /* by */ / /* four */ 4 }
+fn raw(n: u64) -> u64 { let s = br"/*"; let t = br#"a" / 10"#; n / 4 }
 fn powers(n: u64) -> u64 {
-    let mut m = n / 2 * 3 % SIXTEEN + n / Size::UNIT - n % 0b100 as u64;
+    let mut m = n / 2 * 3 % SIXTEEN + n / 64u64 - n % 0b100 as u64;
     m /= 1;
     m %= 18_446_744_073_709_551_616;
     for i in 0..n / 2 { m = n
         / 4; }
-    if m < n % 4 { n } else { m / 8 }
+    match m { 0 => m /= 2, _ => m %= 8, }
+    if m < n % 4 { n } else { m / SIXTEEN }
 }
-fn others(n: u64, d: u64, SHADOWED: u64) -> u64 {
+fn others(n: u64, d: u64) -> u64 {
     let mut m = n / d; // found
     m = n / 10; // found
     m = n%10; // found
@@ -62,34 +65,41 @@ fn others(n: u64, d: u64, SHADOWED: u64) -> u64 {
     m = n / SIXTEEN(d); // found
     m = n / SIXTEEN [1]; // found
     m = n / SIXTEEN::d; // found
+    m = n / u8::SIXTEEN; // found
+    m = n / UNIT; // found
+    m = n / RENAMED; // found
+    m = n / OTHERS; // found
     m = n / 16.0; // found
     m = n / -2; // found
     m = n / b'@'; // found
-    m = n / EITHER; // found
-    m = n / SHADOWED; // found
+    m = n / _4; // found
+    m = n / _16; // found
     m = n / SUM; // found
     m = n / 4 % d; // found
     m
         / 6 // found
 }
+fn fact(n: u64) -> u64 requires { ⌜ n < 5 {- ⌝ // -} ⌝ } { n / 10 } // found
+/* a comment that does not end // found
 SOURCE
+printf 'pub const OTHERS: u64 = 16;\npub const RENAMED: u64 = 16;\n' >crates/c_api/src/other.rt
 grep -n '// found$' crates/c_api/src/lib.rt | sed 's/:.*//' >want.txt
 says 1 source
-sed 's/^[^:]*:\([0-9]*\):.*/\1/' said.txt >found.txt
+sed 's/^[^:]*:\([0-9]*\):.*/\1/' said.txt | uniq >found.txt
 cmp want.txt found.txt || fail "the lines found in source"
-sed '/^fn others/,$d' crates/c_api/src/lib.rt >powers.rt
-mv powers.rt crates/c_api/src/lib.rt
-sed -i '/SHADOWED/d' crates/c_api/src/lib.rt
+sed -i '/^fn others/,$d; /found$/d' crates/c_api/src/lib.rt
 says 0 source
-grep -qx 'source: 1 files, 12 divisions and remainders, each by a power of two' said.txt || fail "powers of two"
-echo "source: $(wc -l <want.txt) divisions found, 12 by powers of two passed"
+grep -qx 'source: 15 divisions and remainders, each by a power of two' said.txt || fail "powers of two"
+echo "source: $(wc -l <want.txt) divisions found, 15 by powers of two passed"
+rm crates/c_api/src/other.rt
 
-# Machine code: a library and a program without a division, then one of them with one.
+# What is compiled, and its machine code: a library and a program, one of them with a division.
 library() {
     cat >crates/c_api/src/lib.rt <<SOURCE
+const TEN: u64 = 10;
 #[no_mangle]
 pub extern "C" fn bogsilver_trial(n: u64, d: u64) -> u64 {
-    if d == 0 { 0 } else { $1 }
+    if d == 0 { TEN } else { $1 }
 }
 SOURCE
 }
@@ -100,44 +110,64 @@ fn main() {
     io::read_full(libc::STDIN_FILENO, &mut space);
     let d = space[0];
     if d != 0 {
-        space[0] = space[1] $1 d;
+        space[0] = $1;
         io::write_all(libc::STDOUT_FILENO, &space);
     }
 }
 SOURCE
 }
-library 'n / 10'
-program '&'
-says 0 machine
-[ "$(grep -c '^machine code: .* none divides$' said.txt)" -eq 2 ] || fail "machine code without a division"
 
-# found PATTERN OTHER: a line of what was found is so, and the other file has no division.
+# found PATTERN..: what is listed of what is compiled and of machine code begins so, and nothing else is listed.
 found() {
     says 1 machine
-    grep -q "^$1 " said.txt && grep -q "^machine code: $2, .* none divides$" said.txt || fail "machine code: $1"
+    grep -v 'each by a power of two$' said.txt | grep -v 'none divides$' >found.txt
+    for pattern; do
+        grep -q "^$pattern" found.txt || fail "nothing found as $pattern"
+        grep -v "^$pattern" found.txt >left.txt || :
+        mv left.txt found.txt
+    done
+    [ ! -s found.txt ] || fail "found beside $*"
 }
-for operator in / %; do
-    library "n $operator d"
-    program '&'
-    found 'target/staticlib/libbogsilver.a: bogsilver_trial: div' target/bin/override_desk
-    library d
-    program "$operator"
-    found 'target/bin/override_desk: main: div' target/staticlib/libbogsilver.a
-done
+archive=target/staticlib/libbogsilver.a
+binary=target/bin/override_desk
+library 'n / 16'
+program 'space[1] % 8'
+says 0 machine
+[ "$(grep -c 'each by a power of two$' said.txt)" -eq 2 ] || fail "powers of two in what is compiled"
+[ "$(grep -c 'none divides$' said.txt)" -eq 2 ] || fail "machine code without a division"
+library 'n / TEN'
+found 'c_api: c_api::bogsilver_trial: div by ( int 64 10 )'
+library 'n % d'
+found 'c_api: c_api::bogsilver_trial: rem by ( copy' "$archive: bogsilver_trial: div "
+library 'd'
+program 'space[1] / d'
+found 'override_desk: override_desk::main: div by ( copy' "$binary: main: div "
+program '7; io::print_decimal(libc::STDOUT_FILENO, 7)'
+found 'override_desk: io::number::'
+program '7'
 
-# By gcc: a signed division, whose quotient Rattle would want to be proved to fit; and a library with no code at all.
-program '&'
+# Machine code alone, by gcc: a signed division, a call of a division routine, a part that is no object, no code at all.
 stand_in() {
     cat >tools/library.sh <<SCRIPT
 #!/bin/sh
-echo '$1' | gcc -O2 -x c -c -o trial.o -
-rm -f target/staticlib/libbogsilver.a
-ar rc target/staticlib/libbogsilver.a trial.o
-echo target/staticlib/libbogsilver.a
+cp '$1' $archive
+echo $archive
 SCRIPT
 }
-stand_in 'long bogsilver_trial(long n, long d) { return n / d; }'
-found 'target/staticlib/libbogsilver.a: bogsilver_trial: idiv' target/bin/override_desk
-stand_in 'extern int bogsilver_trial;'
-found 'target/staticlib/libbogsilver.a: no machine' target/bin/override_desk
-echo "machine code: three divisions found in the library, two in the program, none where there is none"
+# object NAME SOURCE: an archive of one object.
+object() {
+    echo "$2" | gcc -O2 -x c -c -o "$1.o" -
+    ar rc "$1.a" "$1.o"
+    stand_in "$1.a"
+}
+object signed 'long bogsilver_trial(long n, long d) { return n / d; }'
+found "$archive: bogsilver_trial: idiv "
+object routine '__int128 bogsilver_trial(__int128 n, __int128 d) { return n % d; }'
+found "$archive: bogsilver_trial: R_X86_64_PLT32 __modti3"
+object none 'extern int bogsilver_trial;'
+found "$archive: no machine code"
+object cut 'int bogsilver_trial(void) { return 1; }'
+head -c 100 signed.o >no_object.o
+ar rcS cut.a no_object.o
+found "$archive: not disassembled"
+echo "machine: a division found in each of 6 builds, an empty library and a broken one refused"

@@ -566,7 +566,7 @@ def long_values():
 
 
 def decimal_borders():
-    """Integers, tags and lengths at each power of ten, and each digit at each place."""
+    """Integers and tags about each digit of each place, lengths about each power of ten."""
     numbers = {digit * 10**place + step for place in range(19)
                for digit in range(1, 10) for step in (-1, 0)}
     for number in sorted(n for n in numbers if n < 2**63):
