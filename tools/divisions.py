@@ -8,11 +8,11 @@ Prints how many were seen if none is listed; else ends with status 1. MIR, the f
 the functions of the toolchain's libraries that are called. What the compiler itself computes, as a constant's value, stands in
 source only.
 
-In source a divisor is seen to be a power of two if it is such a literal, or the name of a constant that stands in the same file
-outside every block and is such a literal. Anything else is listed. Comments, byte literals and the facts of contracts are no
-code; what cannot be told from code is listed too.
+In source a divisor is seen to be a power of two if it is such a literal, or the name of a constant that stands at the front of a
+line of the same file, which has no module in it, and is such a literal. Anything else is listed. Comments, byte literals, the facts
+of contracts and `ghost use` are no code; what cannot be told from code is listed too.
 """
-import pathlib
+import glob
 import re
 import sys
 
@@ -21,6 +21,7 @@ NO_CODE = re.compile(
     r"""//[^\n]*|/\*|\bbr(#*)".*?"\1|\bb"(?:\\.|[^"\\])*"|\bb'(?:\\.|[^'\\])+'"""
     r"""|⌜(?:(?!--|\{-)[^⌜⌝])*⌝|\bghost\s+use\s[^;]*;""", re.S)
 COMMENT_BORDER = re.compile(r"/\*|\*/")
+INNER_MODULE = re.compile(r"\bmod\s+\w+\s*\{")
 CONSTANT = re.compile(r"^(?:pub\s+)?const\s+(\w+)\s*:[^=;]+=([^;]*);", re.M)
 OPERATOR = re.compile(r"[/%](=?)\s*|[⌜⌝]")
 DIVISOR = re.compile(r"(\w+)(?:\s+as\s+\w+)*")
@@ -67,6 +68,13 @@ def code_of(text):
     return code + text[at:]
 
 
+def constants_of(code):
+    """The names that are powers of two throughout a file: Rattle lets nothing hide a constant of the same module."""
+    if INNER_MODULE.search(code):
+        return set()
+    return {name for name, value in CONSTANT.findall(code) if is_power_literal(value)}
+
+
 def divides_by_power(code, operator, constants):
     """Is the divisor after an operator a power of two."""
     divisor = DIVISOR.match(code, operator.end())
@@ -79,12 +87,13 @@ def divides_by_power(code, operator, constants):
 
 def in_source(folders):
     """How many operators the folders' source has, and a line for each that is listed."""
-    files = sorted(file for folder in folders for file in pathlib.Path(folder).rglob("*.rt"))
+    files = sorted(file for folder in folders for file in glob.glob(f"{folder}/**/*.rt", recursive=True))
     seen, listed = 0, [] if files else ["no source"]
     for file in files:
-        text = file.read_text(encoding="utf8")
+        with open(file, encoding="utf8") as source:
+            text = source.read()
         code, lines = code_of(text), text.split("\n")
-        constants = {name for name, value in CONSTANT.findall(code) if is_power_literal(value)}
+        constants = constants_of(code)
         for operator in OPERATOR.finditer(code):
             seen += 1
             if not divides_by_power(code, operator, constants):

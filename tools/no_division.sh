@@ -3,9 +3,9 @@
 # - source: in the source of every crate;
 # - machine: in what the library and override-desk are compiled from, the toolchain's functions that they call too; and no
 #   division instruction in their machine code. The first shows a division by a constant, which becomes a multiplication, the
-#   second one that the compiler made of a loop of subtractions.
+#   second one that the compiler adds.
 # Usage: tools/no_division.sh [source] [machine]; with no argument both. machine proves and builds first.
-# Needs rt, Python and objdump.
+# source needs Python; machine needs rt and objdump too.
 set -eu
 CDPATH= cd -- "$(dirname -- "$0")/.."
 
@@ -32,7 +32,7 @@ disassembled() {
     awk -v file="$1" '
         /^[0-9a-f]+ <.*>:$/ { name = substr($0, index($0, "<") + 1); sub(/>:$/, "", name) }
         /^ *[0-9a-f]+:\t/ { seen++ }
-        /^ *[0-9a-f]+:\t([a-z0-9]+ )*[a-z]*div/ || /^[ \t]+.*[<\t]__[a-z]*(div|mod)/ {
+        /^ *[0-9a-f]+:\t([a-z0-9]+ )*[a-z]*div/ || /^[ \t]+.*[<\t]__[a-z_]*(div|mod)/ {
             $1 = ""
             print file ": " name ":" $0
             listed++

@@ -1,11 +1,12 @@
 #!/bin/sh
 # Tries tools/no_division.sh in a small tree of its own: each division that is put in is found, in source, in what is compiled
-# and in machine code, and what may stand is passed. Takes half a minute; needs rt, Python, gcc, ar and objdump.
+# or in machine code, and what may stand is passed. Takes half a minute; needs rt, Python, gcc, ar and objdump.
 set -eu
 CDPATH= cd -- "$(dirname -- "$0")/../.."
 tree=$(mktemp -d)
 trap 'rm -rf "$tree"' EXIT
-mkdir -p "$tree/tools" "$tree/crates/c_api/src" "$tree/crates/override_desk/src"
+trap 'exit 1' HUP INT TERM
+mkdir -p "$tree/tools" "$tree/crates/c_api/src" "$tree/crates/override_desk/src/deep"
 cp tools/no_division.sh tools/divisions.py tools/library.sh "$tree/tools"
 cd "$tree"
 printf 'c_api:\noverride_desk: io libc\n' >crates.txt
@@ -16,19 +17,23 @@ fail() {
     exit 1
 }
 
-# says STATUS PART: the script, over a part, ends so; what it says is in said.txt.
+# says STATUS [PART]: the script ends so; what it says is in said.txt.
 says() {
+    want=$1
+    shift
     status=0
-    tools/no_division.sh "$2" >said.txt 2>said.log || status=$?
-    [ "$status" -eq "$1" ] || fail "status $status of $2"
+    tools/no_division.sh "$@" >said.txt 2>said.log || status=$?
+    [ "$status" -eq "$want" ] || fail "status $status of $*"
 }
+says 2 sources
 
 # Source: on the lines marked `found` what may not stand, on the others what may.
 says 1 source
 grep -qx 'no source' said.txt || fail "no source at all"
 cat >crates/c_api/src/lib.rt <<'SOURCE'
 // n / 10, a comment /* and no other
-/* n / 10 /* n % 10 */ // n / 10 */
+/* n / 10 /* n % 10 */ n / 10 */
+ghost use Prim.Native.Nat.{_/_, _%_};
 use other::TEN as RENAMED;
 pub const SIXTEEN: u64 = 0x1_0;
 const SUM: u64 = 8 + 8;
@@ -80,18 +85,29 @@ fn others(n: u64, d: u64) -> u64 {
         / 6 // found
 }
 fn fact(n: u64) -> u64 requires { ⌜ n < 5 {- ⌝ // -} ⌝ } { n / 10 } // found
+fn fact_2(n: u64) -> u64 requires { ⌜n < 5 -- ⌝ } // found
+fn fact_3(n: u64) -> u64 requires { ⌜2 -- ⌝4 } // found
+fn witness(n: u64) -> u64 ghost { ℕ } { let m = n / 10; m } // found
 /* a comment that does not end // found
 SOURCE
-printf 'pub const OTHERS: u64 = 16;\npub const RENAMED: u64 = 16;\n' >crates/c_api/src/other.rt
-grep -n '// found$' crates/c_api/src/lib.rt | sed 's/:.*//' >want.txt
+cat >crates/c_api/src/another.rt <<'SOURCE'
+pub const OTHERS: u64 = 16;
+pub const RENAMED: u64 = 16;
+mod inner {
+    const OTHERS: u64 = 10;
+    fn hidden(n: u64) -> u64 { n / OTHERS } // found
+}
+SOURCE
+echo 'fn tenth(n: u64) -> u64 { n / 10 } // found' >crates/override_desk/src/deep/tenth.rt
+grep -nr '// found$' crates | sed 's/^\([^:]*:[0-9]*\):.*/\1/' | sort >want.txt
 says 1 source
-sed 's/^[^:]*:\([0-9]*\):.*/\1/' said.txt | uniq >found.txt
+sed 's/^\([^:]*:[0-9]*\):.*/\1/' said.txt | sort -u >found.txt
 cmp want.txt found.txt || fail "the lines found in source"
+rm -r crates/c_api/src/another.rt crates/override_desk/src/deep
 sed -i '/^fn others/,$d; /found$/d' crates/c_api/src/lib.rt
 says 0 source
 grep -qx 'source: 15 divisions and remainders, each by a power of two' said.txt || fail "powers of two"
 echo "source: $(wc -l <want.txt) divisions found, 15 by powers of two passed"
-rm crates/c_api/src/other.rt
 
 # What is compiled, and its machine code: a library and a program, one of them with a division.
 library() {
@@ -120,7 +136,7 @@ SOURCE
 # found PATTERN..: what is listed of what is compiled and of machine code begins so, and nothing else is listed.
 found() {
     says 1 machine
-    grep -v 'each by a power of two$' said.txt | grep -v 'none divides$' >found.txt
+    grep -v -e 'each by a power of two$' -e 'none divides$' said.txt >found.txt || :
     for pattern; do
         grep -q "^$pattern" found.txt || fail "nothing found as $pattern"
         grep -v "^$pattern" found.txt >left.txt || :
@@ -132,13 +148,18 @@ archive=target/staticlib/libbogsilver.a
 binary=target/bin/override_desk
 library 'n / 16'
 program 'space[1] % 8'
-says 0 machine
-[ "$(grep -c 'each by a power of two$' said.txt)" -eq 2 ] || fail "powers of two in what is compiled"
+says 0
+[ "$(grep -c 'each by a power of two$' said.txt)" -eq 3 ] || fail "powers of two in source and in what is compiled"
 [ "$(grep -c 'none divides$' said.txt)" -eq 2 ] || fail "machine code without a division"
 library 'n / TEN'
 found 'c_api: c_api::bogsilver_trial: div by ( int 64 10 )'
 library 'n % d'
 found 'c_api: c_api::bogsilver_trial: rem by ( copy' "$archive: bogsilver_trial: div "
+library 'n / 0'
+says 1 machine
+grep -q 'NOT PROVED\|not-proved' said.log || fail "a library that is not proved"
+library 'if 1.0 / 2.0 < 0.1 { n } else { d }'
+found 'c_api: c_api::bogsilver_trial: floatDiv'
 library 'd'
 program 'space[1] / d'
 found 'override_desk: override_desk::main: div by ( copy' "$binary: main: div "
@@ -146,7 +167,8 @@ program '7; io::print_decimal(libc::STDOUT_FILENO, 7)'
 found 'override_desk: io::number::'
 program '7'
 
-# Machine code alone, by gcc: a signed division, a call of a division routine, a part that is no object, no code at all.
+# Machine code alone, by gcc: a signed division, one behind a prefix, a call of a division routine, no code at all, and a
+# part that is no object.
 stand_in() {
     cat >tools/library.sh <<SCRIPT
 #!/bin/sh
@@ -162,6 +184,8 @@ object() {
 }
 object signed 'long bogsilver_trial(long n, long d) { return n / d; }'
 found "$archive: bogsilver_trial: idiv "
+object prefixed 'void bogsilver_trial(void) { __asm__(".byte 0x2e; div %rcx"); }'
+found "$archive: bogsilver_trial: cs div "
 object routine '__int128 bogsilver_trial(__int128 n, __int128 d) { return n % d; }'
 found "$archive: bogsilver_trial: R_X86_64_PLT32 __modti3"
 object none 'extern int bogsilver_trial;'
@@ -170,4 +194,4 @@ object cut 'int bogsilver_trial(void) { return 1; }'
 head -c 100 signed.o >no_object.o
 ar rcS cut.a no_object.o
 found "$archive: not disassembled"
-echo "machine: a division found in each of 6 builds, an empty library and a broken one refused"
+echo "machine: a division found in each of 8 builds; an unproved, an empty and a broken library refused"
