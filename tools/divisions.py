@@ -8,9 +8,9 @@ Prints how many were seen if none is listed; else ends with status 1. MIR, the f
 the functions of the toolchain's libraries that are called. What the compiler itself computes, as a constant's value, stands in
 source only.
 
-In source a divisor is seen to be a power of two if it is such a literal, or the name of a constant that stands at the front of a
-line of the same file, which has no module in it, and is such a literal. Anything else is listed. Comments, byte literals, the facts
-of contracts and `ghost use` are no code; what cannot be told from code is listed too.
+In source a divisor is seen to be a power of two if it is such a literal, or the name of a constant that is such a literal and
+stands in the same file, which has no module in it, outside every block. Anything else is listed. Comments, byte literals, the
+facts of contracts and `ghost use` are no code; what cannot be told from code is listed too.
 """
 import glob
 import re
@@ -21,8 +21,8 @@ NO_CODE = re.compile(
     r"""//[^\n]*|/\*|\bbr(#*)".*?"\1|\bb"(?:\\.|[^"\\])*"|\bb'(?:\\.|[^'\\])+'"""
     r"""|⌜(?:(?!--|\{-)[^⌜⌝])*⌝|\bghost\s+use\s[^;]*;""", re.S)
 COMMENT_BORDER = re.compile(r"/\*|\*/")
-INNER_MODULE = re.compile(r"\bmod\s+\w+\s*\{")
-CONSTANT = re.compile(r"^(?:pub\s+)?const\s+(\w+)\s*:[^=;]+=([^;]*);", re.M)
+INNER_MODULE = re.compile(r"\bmod\b[^;{]*\{")
+CONSTANT = re.compile(r"\bconst\s+(\w+)\s*:[^=;]+=([^;]*);")
 OPERATOR = re.compile(r"[/%](=?)\s*|[⌜⌝]")
 DIVISOR = re.compile(r"(\w+)(?:\s+as\s+\w+)*")
 # A path, a call, an index or a field makes another number of what stands before it; `..` is a range.
@@ -68,11 +68,16 @@ def code_of(text):
     return code + text[at:]
 
 
+def in_block(code, at):
+    return code.count("{", 0, at) != code.count("}", 0, at)
+
+
 def constants_of(code):
     """The names that are powers of two throughout a file: Rattle lets nothing hide a constant of the same module."""
     if INNER_MODULE.search(code):
         return set()
-    return {name for name, value in CONSTANT.findall(code) if is_power_literal(value)}
+    constants = [found for found in CONSTANT.finditer(code) if not in_block(code, found.start())]
+    return {found.group(1) for found in constants if is_power_literal(found.group(2))}
 
 
 def divides_by_power(code, operator, constants):

@@ -6,7 +6,7 @@ CDPATH= cd -- "$(dirname -- "$0")/../.."
 tree=$(mktemp -d)
 trap 'rm -rf "$tree"' EXIT
 trap 'exit 1' HUP INT TERM
-mkdir -p "$tree/tools" "$tree/crates/c_api/src" "$tree/crates/override_desk/src/deep"
+mkdir -p "$tree/tools" "$tree/crates/c_api/src" "$tree/crates/override_desk/src"
 cp tools/no_division.sh tools/divisions.py tools/library.sh "$tree/tools"
 cd "$tree"
 printf 'c_api:\noverride_desk: io libc\n' >crates.txt
@@ -41,7 +41,7 @@ const _4: u64 = 10;
 const TENTH: u64 = 1000 / 10; // found
 struct Size(u64);
 impl Size {
-    const UNIT: u64 = 64u64;
+const UNIT: u64 = 64u64;
 }
 fn slash<'a>(s: &'a [u8], t: &'a [u8]) -> bool { s[0] == b'/' && t[0] == b'\'' && 10 % 8 == 2 }
 fn text(n: u64) -> u64 requires { ⌜ n % 10 < 5 ⌝ } { let s = b"\"1 / 10"; n /* by */ / /* four */ 4 }
@@ -98,8 +98,10 @@ mod inner {
     fn hidden(n: u64) -> u64 { n / OTHERS } // found
 }
 SOURCE
+mkdir elsewhere
+ln -s "$tree/elsewhere" crates/override_desk/src/deep
 echo 'fn tenth(n: u64) -> u64 { n / 10 } // found' >crates/override_desk/src/deep/tenth.rt
-grep -nr '// found$' crates | sed 's/^\([^:]*:[0-9]*\):.*/\1/' | sort >want.txt
+grep -nR '// found$' crates | sed 's/^\([^:]*:[0-9]*\):.*/\1/' | sort >want.txt
 says 1 source
 sed 's/^\([^:]*:[0-9]*\):.*/\1/' said.txt | sort -u >found.txt
 cmp want.txt found.txt || fail "the lines found in source"
@@ -107,7 +109,7 @@ rm -r crates/c_api/src/another.rt crates/override_desk/src/deep
 sed -i '/^fn others/,$d; /found$/d' crates/c_api/src/lib.rt
 says 0 source
 grep -qx 'source: 15 divisions and remainders, each by a power of two' said.txt || fail "powers of two"
-echo "source: $(wc -l <want.txt) divisions found, 15 by powers of two passed"
+echo "source: $(wc -l <want.txt) lines listed, 15 divisions by powers of two passed"
 
 # What is compiled, and its machine code: a library and a program, one of them with a division.
 library() {
