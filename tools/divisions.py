@@ -1,7 +1,7 @@
 #!/usr/bin/env python3
 """Lists each division and remainder whose divisor is not seen to be a power of two.
 
-Usage: tools/divisions.py source FOLDER..    in Rattle source: `FILE:LINE: the line` for each
+Usage: tools/divisions.py source FOLDER..    in Rattle source: `FILE:LINE: the line` for each such line
        tools/divisions.py mir NAME           in what `rt mir` prints, handed in: `NAME: FUNCTION: the divisor` for each
 
 Prints how many were seen if none is listed; else ends with status 1. MIR, the form that is compiled, has names resolved and has
@@ -16,14 +16,19 @@ import glob
 import re
 import sys
 
-# A fact that holds a comment of antt's is left as it is, and so is listed by its brackets.
-NO_CODE = re.compile(
-    r"""//[^\n]*|/\*|\bbr(#*)".*?"\1|\bb"(?:\\.|[^"\\])*"|\bb'(?:\\.|[^'\\])+'"""
-    r"""|⌜(?:(?!--|\{-)[^⌜⌝])*⌝|\bghost\s+use\s[^;]*;""", re.S)
+# Contracts are antt, whose comments start with `--` or `{-`: what holds one stays, and is listed by it.
+NO_CODE = re.compile(r"""
+    //[^\n]* | /\*
+    | \bbr(\#*)".*?"\1 | \bb"(?:\\.|[^"\\])*" | \bb'(?:\\x\w\w|\\.|[^'\\\n])'
+    | \bextern\s+"C"
+    | ⌜(?:(?!--|\{-)[^⌜⌝])*⌝ | \bghost\s+use\s(?:(?!--|\{-)[^;])*;
+    """, re.S | re.X)
 COMMENT_BORDER = re.compile(r"/\*|\*/")
 INNER_MODULE = re.compile(r"\bmod\b[^;{]*\{")
-CONSTANT = re.compile(r"\bconst\s+(\w+)\s*:[^=;]+=([^;]*);")
-OPERATOR = re.compile(r"[/%](=?)\s*|[⌜⌝]")
+CONSTANT = re.compile(r"\bconst\s+(\w+)\s*:[^=;{}()<>]+=([^;]*);")
+OPERATOR = re.compile(r"[/%](=?)\s*")
+# None of these is left where code was told from the rest.
+UNTOLD = re.compile(r"[⌜⌝\"]|--|\{-")
 DIVISOR = re.compile(r"(\w+)(?:\s+as\s+\w+)*")
 # A path, a call, an index or a field makes another number of what stands before it; `..` is a range.
 CONTINUED = re.compile(r"\s*(?:::|\(|\[|\.(?!\.))")
@@ -83,7 +88,7 @@ def constants_of(code):
 def divides_by_power(code, operator, constants):
     """Is the divisor after an operator a power of two."""
     divisor = DIVISOR.match(code, operator.end())
-    if operator.group() in "⌜⌝" or not divisor or CONTINUED.match(code, divisor.end()):
+    if not divisor or CONTINUED.match(code, divisor.end()):
         return False
     if operator.group(1) and not STATEMENT_END.match(code, divisor.end()):
         return False
@@ -99,11 +104,12 @@ def in_source(folders):
             text = source.read()
         code, lines = code_of(text), text.split("\n")
         constants = constants_of(code)
-        for operator in OPERATOR.finditer(code):
-            seen += 1
-            if not divides_by_power(code, operator, constants):
-                number = code.count("\n", 0, operator.start())
-                listed.append(f"{file}:{number + 1}: {lines[number].strip()}")
+        operators = list(OPERATOR.finditer(code))
+        seen += len(operators)
+        faults = [operator for operator in operators if not divides_by_power(code, operator, constants)]
+        faults += UNTOLD.finditer(code)
+        for number in sorted({code.count("\n", 0, fault.start()) for fault in faults}):
+            listed.append(f"{file}:{number + 1}: {lines[number].strip()}")
     return seen, listed
 
 

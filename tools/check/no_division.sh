@@ -86,8 +86,13 @@ fn others(n: u64, d: u64) -> u64 {
 }
 fn fact(n: u64) -> u64 requires { ⌜ n < 5 {- ⌝ // -} ⌝ } { n / 10 } // found
 fn fact_2(n: u64) -> u64 requires { ⌜n < 5 -- ⌝ } // found
-fn fact_3(n: u64) -> u64 requires { ⌜2 -- ⌝4 } // found
+fn fact_3(n: u64) -> u64 requires { {- // -} ⌜ n < 5 ⌝ } { n / 10 } // found
+fn fact_4(n: u64) -> u64 requires { ⌜ n < 5 ⌝ ∗ "//" } { n / 10 } // found
+fn prime(n: u64) -> u64 ensures { λ b'. ⌜ n < 5 ⌝ } { n / 10 } // found
+extern "C" fn prime_2<'a>(s: &'a [u8]) -> &'a [u8] { s }
 fn witness(n: u64) -> u64 ghost { ℕ } { let m = n / 10; m } // found
+ghost use Prim.Native.Nat.{ -- ; // found
+    _+_ };
 /* a comment that does not end // found
 SOURCE
 cat >crates/c_api/src/another.rt <<'SOURCE'
@@ -103,7 +108,7 @@ ln -s "$tree/elsewhere" crates/override_desk/src/deep
 echo 'fn tenth(n: u64) -> u64 { n / 10 } // found' >crates/override_desk/src/deep/tenth.rt
 grep -nR '// found$' crates | sed 's/^\([^:]*:[0-9]*\):.*/\1/' | sort >want.txt
 says 1 source
-sed 's/^\([^:]*:[0-9]*\):.*/\1/' said.txt | sort -u >found.txt
+sed 's/^\([^:]*:[0-9]*\):.*/\1/' said.txt | sort >found.txt
 cmp want.txt found.txt || fail "the lines found in source"
 rm -r crates/c_api/src/another.rt crates/override_desk/src/deep
 sed -i '/^fn others/,$d; /found$/d' crates/c_api/src/lib.rt
