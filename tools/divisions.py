@@ -9,26 +9,28 @@ the functions of the toolchain's libraries that are called. What the compiler it
 source only.
 
 In source a divisor is seen to be a power of two if it is such a literal, or the name of a constant that is such a literal and
-stands in the same file, which has no module in it, outside every block. Anything else is listed. Comments, byte literals, the
-facts of contracts and `ghost use` are no code; what cannot be told from code is listed too.
+stands in the same file, which has no module in it, outside every block. Anything else is listed. Comments, byte literals,
+contracts and `ghost use` are no code; what cannot be told from code is listed too, and may hide a division after it.
 """
 import glob
 import re
 import sys
 
-# Contracts are antt, whose comments start with `--` or `{-`: what holds one stays, and is listed by it.
+# Contracts are antt, in which `--` and `{-` start comments. A bracket may stand in a comment, a string or a quoted name, so a
+# contract that holds one of these is left, and is listed by its first word.
 NO_CODE = re.compile(r"""
     //[^\n]* | /\*
     | \bbr(\#*)".*?"\1 | \bb"(?:\\.|[^"\\])*" | \bb'(?:\\x\w\w|\\.|[^'\\\n])'
     | \bextern\s+"C"
-    | ⌜(?:(?!--|\{-)[^⌜⌝])*⌝ | \bghost\s+use\s(?:(?!--|\{-)[^;])*;
+    | \b(?:requires|ensures|ghost)(?:\s+\w+)?\s*\{(?:(?!--)[^{}"«»]|\{(?!-)(?:(?!--)[^{}"«»])*\})*\}
+    | \bghost\s+use\s(?:(?!--|\{-)[^;"«»])*;
     """, re.S | re.X)
 COMMENT_BORDER = re.compile(r"/\*|\*/")
 INNER_MODULE = re.compile(r"\bmod\b[^;{]*\{")
 CONSTANT = re.compile(r"\bconst\s+(\w+)\s*:[^=;{}()<>]+=([^;]*);")
 OPERATOR = re.compile(r"[/%](=?)\s*")
 # None of these is left where code was told from the rest.
-UNTOLD = re.compile(r"[⌜⌝\"]|--|\{-")
+UNTOLD = re.compile(r"[⌜⌝\"]|\b(?:requires|ensures|ghost)\b")
 DIVISOR = re.compile(r"(\w+)(?:\s+as\s+\w+)*")
 # A path, a call, an index or a field makes another number of what stands before it; `..` is a range.
 CONTINUED = re.compile(r"\s*(?:::|\(|\[|\.(?!\.))")

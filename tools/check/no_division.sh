@@ -44,7 +44,7 @@ impl Size {
 const UNIT: u64 = 64u64;
 }
 fn slash<'a>(s: &'a [u8], t: &'a [u8]) -> bool { s[0] == b'/' && t[0] == b'\'' && 10 % 8 == 2 }
-fn text(n: u64) -> u64 requires { ⌜ n % 10 < 5 ⌝ } { let s = b"\"1 / 10"; n /* by */ / /* four */ 4 }
+fn text(n: u64) -> u64 requires { ⌜ n % 10 < 5 ⌝ } ensures it { λ r. ⌜ r ≡ record { first-at = n / 10 } ⌝ } { let s = b"\"1 / 10"; n /* by */ / /* four */ 4 }
 fn raw(n: u64) -> u64 { let s = br"/*"; let t = br#"a" / 10"#; n / 4 }
 fn powers(n: u64) -> u64 {
     let mut m = n / 2 * 3 % SIXTEEN + n / 64u64 - n % 0b100 as u64;
@@ -88,6 +88,10 @@ fn fact(n: u64) -> u64 requires { ⌜ n < 5 {- ⌝ // -} ⌝ } { n / 10 } // fou
 fn fact_2(n: u64) -> u64 requires { ⌜n < 5 -- ⌝ } // found
 fn fact_3(n: u64) -> u64 requires { {- // -} ⌜ n < 5 ⌝ } { n / 10 } // found
 fn fact_4(n: u64) -> u64 requires { ⌜ n < 5 ⌝ ∗ "//" } { n / 10 } // found
+fn fact_5(n: u64) -> u64 ensures { λ //. ⌜ n < 5 ⌝ } { n / 10 } // found
+fn fact_6(n: u64) -> u64 ensures { λ /*. ⌜ n < 5 ⌝ } { n / 10 } // */ // found
+fn fact_7(n: u64) -> u64 requires { ⌜ n < 5 ⌝ -- } // found
+}
 fn prime(n: u64) -> u64 ensures { λ b'. ⌜ n < 5 ⌝ } { n / 10 } // found
 extern "C" fn prime_2<'a>(s: &'a [u8]) -> &'a [u8] { s }
 fn witness(n: u64) -> u64 ghost { ℕ } { let m = n / 10; m } // found
