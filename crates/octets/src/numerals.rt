@@ -1,7 +1,8 @@
 // Decimal numerals, read.
 ghost use mathlib.Core.Path.{_≡_};
 ghost use Prim.Native.Nat.{_+_, _-_, _*_, _^_, min};
-ghost use Rattle.octets.specs.Numerals.{digitsAt, numeralAt, capped};
+ghost use lib.ListN.{drop};
+ghost use Rattle.octets.specs.Numerals.{digits, digitsAt, numeralAt, capped};
 use super::bytes::byte_at;
 
 // A decimal numeral: the offset after its last digit, and its number, at most LARGEST.
@@ -12,6 +13,9 @@ pub struct Decimal {
 
 // The largest number that is told apart from larger ones.
 const LARGEST: u64 = 18446744073709551615;
+
+// Up to this number, one digit more is within LARGEST, whatever the digit.
+const ROOMY: u64 = 1844674407370955155;
 
 // The number with one digit more, or LARGEST where that is too large.
 fn extended(number: u64, digit: u8) -> u64
@@ -29,6 +33,32 @@ fn extended(number: u64, digit: u8) -> u64
     }
 }
 
+// A byte as a number.
+fn wide(b: u8) -> u64
+    ensures { λ r. ⌜ r ≡ b ⌝ }
+{
+    b as u64
+}
+
+// The digits from an offset on, after a number: for a number that one digit more may take past LARGEST.
+fn long_digits(s: &[u8], at: usize, number: u64) -> Decimal
+    ensures { λ r. ⌜ r ≡ capped (digits number at (drop at (now (s .entry)))) ⌝ }
+{
+    let mut i = at;
+    let mut n: u64 = number;
+    loop {
+        let b = byte_at(s, i);
+        if b < b'0' {
+            return Decimal { end: i, number: n };
+        }
+        if b'9' < b {
+            return Decimal { end: i, number: n };
+        }
+        n = extended(n, b - b'0');
+        i += 1;
+    }
+}
+
 // The digits from an offset on.
 fn digits(s: &[u8], at: usize) -> Decimal
     ensures { λ r. ⌜ r ≡ capped (digitsAt (now (s .entry)) at) ⌝ }
@@ -43,7 +73,10 @@ fn digits(s: &[u8], at: usize) -> Decimal
         if b'9' < b {
             return Decimal { end: i, number: n };
         }
-        n = extended(n, b - b'0');
+        if ROOMY < n {
+            return long_digits(s, i, n);
+        }
+        n = n * 10 + wide(b) - 48;
         i += 1;
     }
 }
