@@ -1,4 +1,5 @@
 pub mod Ranges
 pub mod SignedLaws
 pub mod IntegerLaws
+pub mod PositiveLaws
 pub mod StringLaws

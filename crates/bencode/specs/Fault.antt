@@ -18,3 +18,8 @@ codeOf (Walk.Fault f) = f .code
 abbrev pub offsetOf : Walk → ℕ
 offsetOf (Walk.End end) = 0
 offsetOf (Walk.Fault f) = f .offset
+
+-- the offset after what a walk found, and 0 for a fault
+abbrev pub afterOf : Walk → ℕ
+afterOf (Walk.End end) = end
+afterOf (Walk.Fault f) = 0

@@ -1,5 +1,6 @@
--- Which integers are read is pinned by `ReadsInteger` and `AcceptsExactly`; the range, `within`, and code and offset of a fault
--- are to be believed. Integers: `i`, an optional `-`, decimal digits, `e`; no leading zero, no `-0` (document 01, 'The frame').
+-- Which integers are read is pinned by `ReadsInteger` and `AcceptsExactly`; the range, `within`, `afterPositive`, and code and
+-- offset of a fault are to be believed. Integers: `i`, an optional `-`, decimal digits, `e`; no leading zero, no `-0` (document
+-- 01, 'The frame').
 -- Assumes nothing.
 use Prim.Native.Nat.{ℕ, _+_, _^_, _<_}
 use mathlib.Core.Bool.{Bool, true, false, cond, _&&_}
@@ -61,3 +62,8 @@ integerAt s at =
 abbrev pub numberEnd : Number → Walk
 numberEnd (Number.Integer z end) = Walk.End end
 numberEnd (Number.Fault f) = Walk.Fault f
+
+-- the offset after an integer from 1 to another, and 0 for any other and for a fault
+abbrev pub afterPositive : ℕ → Number → ℕ
+afterPositive high (Number.Integer z end) = cond (within 1 high z) end 0
+afterPositive high (Number.Fault f) = 0

@@ -1,10 +1,13 @@
 // Integers: `i`, a sign if it is negative, decimal digits and `e`, in the range of 64 bits.
 ghost use mathlib.Core.Path.{_≡_};
-ghost use Prim.Native.Nat.{_^_, _≤_};
+ghost use Prim.Native.Nat.{_^_, _≤_, _<_};
 ghost use lib.IntN.{pos, negℤ, natAbs};
-ghost use Rattle.bencode.specs.Integers.{signed, inRange, integerFrom, integerAt, numberEnd};
+ghost use Rattle.bencode.specs.declared.integers.Number.{Number};
+ghost use Rattle.bencode.specs.Fault.{afterOf};
+ghost use Rattle.bencode.specs.Integers.{signed, inRange, integerFrom, integerAt, numberEnd, afterPositive};
 use super::fault::Fault;
 use super::fault::Walk;
+use octets::Decimal;
 use octets::byte_at;
 use octets::numeral;
 
@@ -112,6 +115,80 @@ pub fn integer_end(s: &[u8], at: usize) -> Walk
     match integer(s, at) {
         Number::Integer { value: _, end } => Walk::End(end),
         Number::Fault(f) => Walk::Fault(f),
+    }
+}
+
+// The integer at an offset that has no sign: the offset after it, and its number. Where the offset is 0, this says nothing.
+fn natural(s: &[u8], at: usize) -> Decimal
+    ensures { λ r. ⌜ (0 < r .end → integerAt (now (s .entry)) at ≡ Number.Integer (pos (r .number)) (r .end)) ⌝ }
+{
+    if byte_at(s, at) != b'i' {
+        return Decimal { end: 0, number: 0 };
+    }
+    let from = at + 1;
+    let n = numeral(s, from);
+    let end = n.end;
+    let number = n.number;
+    if end == from {
+        return Decimal { end: 0, number: 0 };
+    }
+    if byte_at(s, end) != b'e' {
+        return Decimal { end: 0, number: 0 };
+    }
+    if Number::LARGEST < number {
+        return Decimal { end: 0, number: 0 };
+    }
+    Decimal {
+        end: end + 1,
+        number,
+    }
+}
+
+// The offset after the integer at an offset, and 0 where there is none.
+pub fn after_integer(s: &[u8], at: usize) -> usize
+    ensures { λ r. ⌜ r ≡ afterOf (numberEnd (integerAt (now (s .entry)) at)) ⌝ }
+{
+    let n = natural(s, at);
+    let end = n.end;
+    if end != 0 {
+        return end;
+    }
+    match integer(s, at) {
+        Number::Integer {
+            value: _,
+            end: last,
+        } => last,
+        Number::Fault(_) => 0,
+    }
+}
+
+// The offset after the integer at an offset where it is from 1 to another, and 0 where it is not.
+pub fn after_positive(s: &[u8], at: usize, high: u64) -> usize
+    ensures { λ r. ⌜ r ≡ afterPositive high (integerAt (now (s .entry)) at) ⌝ }
+{
+    let n = natural(s, at);
+    let end = n.end;
+    let number = n.number;
+    if end != 0 {
+        if number < 1 {
+            return 0;
+        }
+        if high < number {
+            return 0;
+        }
+        return end;
+    }
+    match integer(s, at) {
+        Number::Integer { value, end: last } => {
+            if value < 1 {
+                return 0;
+            }
+            if high < (value as u64) {
+                return 0;
+            }
+            last
+        }
+        Number::Fault(_) => 0,
     }
 }
 

@@ -1,8 +1,11 @@
 // Values that hold no other: strings and integers.
 ghost use mathlib.Core.Path.{_≡_};
+ghost use Rattle.bencode.specs.Fault.{afterOf};
 ghost use Rattle.bencode.specs.Scalar.{scalarAt};
 use super::fault::Walk;
+use super::integers::after_integer;
 use super::integers::integer_end;
+use super::strings::after_string;
 use super::strings::string_end;
 use octets::byte_at;
 
@@ -14,4 +17,14 @@ pub fn scalar_end(s: &[u8], at: usize) -> Walk
         return integer_end(s, at);
     }
     string_end(s, at)
+}
+
+// The offset after the string or the integer at an offset, and 0 where there is none.
+pub fn after_scalar(s: &[u8], at: usize) -> usize
+    ensures { λ r. ⌜ r ≡ afterOf (scalarAt (now (s .entry)) at) ⌝ }
+{
+    if byte_at(s, at) == b'i' {
+        return after_integer(s, at);
+    }
+    after_string(s, at)
 }

@@ -2,8 +2,7 @@
 ghost use mathlib.Core.Path.{_≡_};
 ghost use Prim.Native.Nat.{_≤_};
 ghost use Rattle.bencode.specs.Skip.{opens, skipFrom, skipValue, skipRest};
-use super::fault::Walk;
-use super::scalar::scalar_end;
+use super::scalar::after_scalar;
 use octets::byte_at;
 
 // Does a byte open a list or a dictionary.
@@ -35,14 +34,11 @@ fn skip_from(s: &[u8], from: usize, levels: usize) -> usize
             }
             depth -= 1;
         } else {
-            match scalar_end(s, at) {
-                Walk::End(end) => {
-                    at = end;
-                }
-                Walk::Fault(_) => {
-                    return at;
-                }
+            let end = after_scalar(s, at);
+            if end == 0 {
+                return at;
             }
+            at = end;
             if depth == 0 {
                 return at;
             }

@@ -1,5 +1,6 @@
 // Strings: a decimal length, a colon and as many bytes.
 ghost use mathlib.Core.Path.{_≡_};
+ghost use Rattle.bencode.specs.Fault.{afterOf};
 ghost use Rattle.bencode.specs.Strings.{stringAt, textEnd};
 use super::fault::Fault;
 use super::fault::Walk;
@@ -52,5 +53,15 @@ pub fn string_end(s: &[u8], at: usize) -> Walk
     match string(s, at) {
         Text::Bytes { start: _, end } => Walk::End(end),
         Text::Fault(f) => Walk::Fault(f),
+    }
+}
+
+// The offset after the string at an offset, and 0 where there is none.
+pub fn after_string(s: &[u8], at: usize) -> usize
+    ensures { λ r. ⌜ r ≡ afterOf (textEnd (stringAt (now (s .entry)) at)) ⌝ }
+{
+    match string(s, at) {
+        Text::Bytes { start: _, end } => end,
+        Text::Fault(_) => 0,
     }
 }

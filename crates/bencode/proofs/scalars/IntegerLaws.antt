@@ -1,7 +1,7 @@
 -- Laws of integers, one for each way through their readers. n is the numeral as the reader has it, with its number capped.
 -- Assumes nothing.
 use Prim.Native.Nat.{ℕ, zero, suc, _+_, _-_, _^_, _≤_, _<_, min}
-use mathlib.Core.Path.{_≡_, refl, sym, _∙_}
+use mathlib.Core.Path.{_≡_, refl, sym, ap, _∙_}
 use mathlib.Core.Bool.{Bool, true, false}
 use mathlib.Core.List.{List}
 use native.Mathlib.Omega.{arith}
@@ -18,7 +18,7 @@ use Rattle.bencode.specs.Fault.{fault}
 use Rattle.octets.specs.Bytes.{byteAt}
 use Rattle.octets.specs.Numerals.{numeralAt, capped}
 use Rattle.bencode.specs.Integers.{signed, inRange, integerFrom, integerAt}
-use Rattle.octets.proofs.digits.NumeralLaws.{same-end, some-end, same-number}
+use Rattle.octets.proofs.digits.NumeralLaws.{same-end, some-end, same-number, numeral-digits, digits-below}
 
 -- -n fits 64 bits where n is at most 2 ^ 63, and no other n
 pub neg-fits : (n : ℕ) → n ≤ 2 ^ 63 → SFits w64 (negℤ (pos n))
@@ -88,3 +88,13 @@ module _ (s : List ℕ) (at : ℕ) where
       pub integer-minus : (byteAt s (at + 2) ≡ 48 → ⊥) → integerFrom s at (at + 2) true ≡ integerAt s at
       unfolding integerAt
       integer-minus h = rw (eq-eqb (byteAt s at) 105 i, eq-eqb (byteAt s (at + 1)) 45 minus, ne-eqb (byteAt s (at + 2)) 48 h) refl
+
+-- ---- an integer with no sign: a numeral after `i`, in the range
+pub integer-natural : (s : List ℕ) (at : ℕ) (n : Decimal) → n ≡ capped (numeralAt s (at + 1)) → byteAt s at ≡ 105 → (n .end ≡ at + 1 → ⊥) → byteAt s (n .end) ≡ 101 → n .number ≤ 2 ^ 63 - 1 → integerAt s at ≡ Number.Integer (pos (n .number)) (n .end + 1)
+integer-natural s at n is i some e h =
+    sym (integer-plus s at i no-minus)
+    ∙ sym (integer-whole s at (at + 1) false n is some e)
+    ∙ sym (range-positive at (n .number) (n .end + 1) h)
+  where
+    no-minus : byteAt s (at + 1) ≡ 45 → ⊥
+    no-minus m = some (same-end s (at + 1) n is ∙ ap (λ (d : Decimal). d .end) (numeral-digits s (at + 1) (λ z. omega (arith, m, z)) ∙ digits-below 0 (at + 1) s (omega (arith, m))))

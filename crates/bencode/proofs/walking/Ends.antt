@@ -1,12 +1,12 @@
 -- Where a part of a payload ends: after its start, and no further than the payload.
 -- Assumes nothing.
 use Prim.Native.Nat.{ℕ, _+_, _-_, _*_, _^_, _≤_, _<_}
-use mathlib.Core.Path.{_≡_, refl, ap, subst, _∙_}
+use mathlib.Core.Path.{_≡_, refl, ap, sym, subst, _∙_}
 use mathlib.Core.Bool.{Bool, true, false, cond}
 use mathlib.Core.List.{List, [], _∷_}
 use native.Mathlib.Omega.{arith}
 use native.Mathlib.Decide.{decLt}
-use borrow.Author.Tests.{leb-true, ltb-true, eqb-true, eqb-false}
+use borrow.Author.Tests.{leb-true, ltb-true, eqb-true, eqb-false, eq-eqb}
 use lib.Dec.{eqb, leb, ltb}
 use lib.IntN.{ℤ}
 use lib.Signed.{mag}
@@ -16,10 +16,11 @@ use mir.Val.{SFits}
 use Rattle.octets.specs.declared.numerals.Decimal.{Decimal}
 use Rattle.bencode.specs.declared.strings.Text.{Text}
 use Rattle.bencode.specs.declared.integers.Number.{Number}
+use Rattle.bencode.specs.declared.fault.Fault.{Fault}
 use Rattle.bencode.specs.declared.fault.Walk.{Walk}
 use Rattle.octets.specs.Bytes.{byteAt}
 use Rattle.octets.specs.Numerals.{isDigit, digits, digitsAt, numeralAt}
-use Rattle.bencode.specs.Fault.{fault}
+use Rattle.bencode.specs.Fault.{fault, afterOf}
 use Rattle.bencode.specs.Strings.{stringAt, textEnd}
 use Rattle.bencode.specs.Integers.{signed, integerFrom, integerAt, numberEnd}
 use Rattle.bencode.specs.Scalar.{scalarAt}
@@ -173,3 +174,24 @@ integer-fits s at z end e = go (integer-inv s at z end e)
     go : SignedInteger s at z end → SFits w64 z
     go (plus b w) = record { sfits = w .fits }
     go (minus b c d w) = record { sfits = w .fits }
+
+-- ---- the offset that stands for a walk, and 0 for a fault: nothing ends at 0
+pub after-end : (w : Walk) (r : ℕ) → r ≡ afterOf w → (r ≡ 0 → ⊥) → w ≡ Walk.End r
+after-end (Walk.End k) r e h = ap Walk.End (sym e)
+after-end (Walk.Fault f) r e h = absurd (h e)
+
+pub after-fault : (s : List ℕ) (at r : ℕ) → r ≡ afterOf (scalarAt s at) → r ≡ 0 → (f : Fault) × (scalarAt s at ≡ Walk.Fault f)
+after-fault s at r e z = go (scalarAt s at) refl e
+  where
+    go : (w : Walk) → scalarAt s at ≡ w → r ≡ afterOf w → (f : Fault) × (scalarAt s at ≡ Walk.Fault f)
+    go (Walk.End k) x e = let h = scalar-ends s at k x in absurd (omega arith)
+    go (Walk.Fault f) x e = (f, x)
+
+-- an integer that is read is the string or integer there
+pub integer-scalar : (s : List ℕ) (at : ℕ) (z : ℤ) (end : ℕ) → integerAt s at ≡ Number.Integer z end → scalarAt s at ≡ Walk.End end
+unfolding scalarAt
+integer-scalar s at z end e = go (integer-inv s at z end e)
+  where
+    go : SignedInteger s at z end → cond (eqb (byteAt s at) 105) (numberEnd (integerAt s at)) (textEnd (stringAt s at)) ≡ Walk.End end
+    go (plus b w) = rw (eq-eqb (byteAt s at) 105 b, e) refl
+    go (minus b c d w) = rw (eq-eqb (byteAt s at) 105 b, e) refl

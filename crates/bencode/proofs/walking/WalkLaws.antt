@@ -1,7 +1,7 @@
 -- Laws of values, lists and dictionaries: one for each way through their walkers, and where they end.
 -- Assumes nothing.
 use Prim.Native.Nat.{ℕ, zero, suc, _+_, _-_, _<_}
-use mathlib.Core.Path.{_≡_, refl, sym}
+use mathlib.Core.Path.{_≡_, refl, sym, _∙_}
 use mathlib.Core.Bool.{Bool, true, false, cond}
 use mathlib.Core.List.{List, [], _∷_}
 use native.Mathlib.Omega.{arith}
@@ -141,6 +141,10 @@ pub value-scalar : (p : Profile) (levels : ℕ) (s : List ℕ) (at : ℕ) → (b
 unfolding valueAt
 value-scalar p zero s at l d = rw (ne-eqb (byteAt s at) 108 l, ne-eqb (byteAt s at) 100 d) refl
 value-scalar p (suc k) s at l d = rw (ne-eqb (byteAt s at) 108 l, ne-eqb (byteAt s at) 100 d) refl
+
+-- a string or an integer is a value, at any depth
+pub scalar-value : (p : Profile) (levels : ℕ) (s : List ℕ) (at end : ℕ) → scalarAt s at ≡ Walk.End end → valueAt p levels s at ≡ Walk.End end
+scalar-value p levels s at end e = let w = scalar-ends s at end e in sym (value-scalar p levels s at (w .no-list) (w .no-dictionary)) ∙ e
 
 pub value-deep-list : (p : Profile) (levels : ℕ) (s : List ℕ) (at : ℕ) → levels ≡ 0 → byteAt s at ≡ 108 → Walk.Fault (fault 7 at) ≡ valueAt p levels s at
 unfolding valueAt

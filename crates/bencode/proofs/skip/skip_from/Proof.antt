@@ -4,12 +4,12 @@
 use Prim.Native.Nat.{_≤_, _-_, _+_}
 use mathlib.Core.Path.{_≡_, refl, sym, ap, _∙_}
 use native.Mathlib.Omega.{arith}
-use borrow.Author.Needs.{needs}
 use lib.ListN.{length}
 use Rattle.octets.specs.Bytes.{byteAt}
+use Rattle.bencode.specs.Scalar.{scalarAt}
 use Rattle.bencode.specs.Skip.{opens, skipFrom}
 use Rattle.octets.proofs.digits.NumeralLaws.{inside}
-use Rattle.bencode.proofs.walking.Ends.{scalar-ends}
+use Rattle.bencode.proofs.walking.Ends.{scalar-ends, after-end, after-fault}
 use Rattle.bencode.proofs.lookup.SkipLaws.{opens-some, skip-open, skip-last, skip-close, skip-fault, skip-scalar-last, skip-scalar}
 use Rattle.bencode.proofs.skip.skip_from.Statement.{statement}
 use Rattle.bencode.proofs.skip.skip_from.Tie as tie
@@ -91,50 +91,45 @@ loop-again-2 c =
     let b = c .before .before .before .before .byte-at .ensures in
     (omega arith, skip-close s (l .at) (l .depth) (sym b ∙ c .before .if2 .taken) (c .if3 .left) ∙ l .inv .1)
 
-scalar-end-requires : tie.Need-scalar-end-requires Inv-loop μ-loop
-scalar-end-requires c κs = tt
-
-enum-known-end : tie.Need-enum-known-end Inv-loop μ-loop
-enum-known-end c = search needs
-
-enum-told : tie.Need-enum-told Inv-loop μ-loop
-enum-told c = search needs
+after-scalar-requires : tie.Need-after-scalar-requires Inv-loop μ-loop
+after-scalar-requires c κs = tt
 
 returns-2 : tie.Need-returns-2 Inv-loop μ-loop
 returns-2 c =
-    let s = c .before .before .before .before .before .before .before .before .before .args .s .now in
-    let l = c .before .before .before .before .before .before .before .loop in
-    let b = c .before .before .before .before .before .before .byte-at .ensures in
-    skip-fault s (l .at) (l .depth) (sym (c .before .before .before .before .before .opens .ensures ∙ ap opens b) ∙ c .before .before .before .before .if1 .left) (λ e. c .before .before .before .if2 .left (b ∙ e)) (c .enum-told .given .0 .0) (sym (c .before .before .scalar-end .ensures) ∙ c .enum-told .given .1) ∙ l .inv .1
+    let s = c .before .before .before .before .before .before .before .before .args .s .now in
+    let l = c .before .before .before .before .before .before .loop in
+    let b = c .before .before .before .before .before .byte-at .ensures in
+    let f = after-fault s (l .at) (c .before .after-scalar .result) (c .before .after-scalar .ensures) (c .if4 .taken) in
+    skip-fault s (l .at) (l .depth) (sym (c .before .before .before .before .opens .ensures ∙ ap opens b) ∙ c .before .before .before .if1 .left) (λ e. c .before .before .if2 .left (b ∙ e)) (f .0) (f .1) ∙ l .inv .1
 
 returns-3 : tie.Need-returns-3 Inv-loop μ-loop
 returns-3 c =
-    let s = c .before .before .before .before .before .before .before .before .before .before .before .args .s .now in
-    let l = c .before .before .before .before .before .before .before .before .before .loop in
-    let b = c .before .before .before .before .before .before .before .before .byte-at .ensures in
-    let e = c .before .before .end .given in
-    let x = sym (c .before .before .before .before .scalar-end .ensures) ∙ e .1 in
-    skip-scalar-last s (l .at) (l .depth) (sym (c .before .before .before .before .before .before .before .opens .ensures ∙ ap opens b) ∙ c .before .before .before .before .before .before .if1 .left) (λ e. c .before .before .before .before .before .if2 .left (b ∙ e)) (e .0 .0) x (c .if4 .taken) ∙ l .inv .1
+    let s = c .before .before .before .before .before .before .before .before .before .args .s .now in
+    let l = c .before .before .before .before .before .before .before .loop in
+    let b = c .before .before .before .before .before .before .byte-at .ensures in
+    let r = c .before .before .after-scalar in
+    let x = after-end (scalarAt s (l .at)) (r .result) (r .ensures) (c .before .if4 .left) in
+    skip-scalar-last s (l .at) (l .depth) (sym (c .before .before .before .before .before .opens .ensures ∙ ap opens b) ∙ c .before .before .before .before .if1 .left) (λ e. c .before .before .before .if2 .left (b ∙ e)) (r .result) x (c .if5 .taken) ∙ l .inv .1
 
 loop-less-3 : tie.Need-loop-less-3 Inv-loop μ-loop
 loop-less-3 c =
-    let s = c .before .before .before .before .before .before .before .before .before .before .before .args .s .now in
-    let l = c .before .before .before .before .before .before .before .before .before .loop in
-    let b = c .before .before .before .before .before .before .before .before .byte-at .ensures in
-    let e = c .before .before .end .given in
-    let x = sym (c .before .before .before .before .scalar-end .ensures) ∙ e .1 in
-    let h = scalar-ends s (l .at) (e .0 .0) x in
+    let s = c .before .before .before .before .before .before .before .before .before .args .s .now in
+    let l = c .before .before .before .before .before .before .before .loop in
+    let b = c .before .before .before .before .before .before .byte-at .ensures in
+    let r = c .before .before .after-scalar in
+    let x = after-end (scalarAt s (l .at)) (r .result) (r .ensures) (c .before .if4 .left) in
+    let h = scalar-ends s (l .at) (r .result) x in
     omega arith
 
 loop-again-3 : tie.Need-loop-again-3 Inv-loop μ-loop
 loop-again-3 c =
-    let s = c .before .before .before .before .before .before .before .before .before .before .before .args .s .now in
-    let l = c .before .before .before .before .before .before .before .before .before .loop in
-    let b = c .before .before .before .before .before .before .before .before .byte-at .ensures in
-    let e = c .before .before .end .given in
-    let x = sym (c .before .before .before .before .scalar-end .ensures) ∙ e .1 in
-    let h = scalar-ends s (l .at) (e .0 .0) x in
-    (omega arith, skip-scalar s (l .at) (l .depth) (sym (c .before .before .before .before .before .before .before .opens .ensures ∙ ap opens b) ∙ c .before .before .before .before .before .before .if1 .left) (λ e. c .before .before .before .before .before .if2 .left (b ∙ e)) (e .0 .0) x (c .if4 .left) ∙ l .inv .1)
+    let s = c .before .before .before .before .before .before .before .before .before .args .s .now in
+    let l = c .before .before .before .before .before .before .before .loop in
+    let b = c .before .before .before .before .before .before .byte-at .ensures in
+    let r = c .before .before .after-scalar in
+    let x = after-end (scalarAt s (l .at)) (r .result) (r .ensures) (c .before .if4 .left) in
+    let h = scalar-ends s (l .at) (r .result) x in
+    (omega arith, skip-scalar s (l .at) (l .depth) (sym (c .before .before .before .before .before .opens .ensures ∙ ap opens b) ∙ c .before .before .before .before .if1 .left) (λ e. c .before .before .before .if2 .left (b ∙ e)) (r .result) x (c .if5 .left) ∙ l .inv .1)
 
 pub skip-from-spec : {M : Type 1} → statement M
 skip-from-spec =
@@ -154,9 +149,7 @@ skip-from-spec =
     sub-depth
     loop-less-2
     loop-again-2
-    scalar-end-requires
-    enum-known-end
-    enum-told
+    after-scalar-requires
     returns-2
     returns-3
     loop-less-3
