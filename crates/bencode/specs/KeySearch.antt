@@ -8,11 +8,10 @@ use lib.Dec.{leb, ltb}
 use Rattle.bencode.specs.declared.entry.Entry.{Entry}
 use Rattle.bencode.specs.declared.key.Seen.{Seen}
 use Rattle.bencode.specs.declared.key.KeyCheck.{KeyCheck}
-use Rattle.bencode.specs.declared.strings.Text.{Text}
 use Rattle.bencode.specs.declared.profile.Profile.{Profile}
 use Rattle.octets.specs.Bytes.{slice, less}
-use Rattle.bencode.specs.Strings.{stringAt}
 use Rattle.bencode.specs.Entry.{entryAt}
+use Rattle.bencode.specs.Marks.{isMarked, withMark}
 
 -- was a key found before an offset
 abbrev pub foundBefore : ℕ → Entry → Bool
@@ -23,22 +22,32 @@ foundBefore end Entry.Missing = false
 unfoldable pub usedAt : List ℕ → ℕ → List ℕ → ℕ → Bool
 usedAt s first key end = foundBefore end (entryAt s key first)
 
--- is a key above the one at the offset of the greatest
-abbrev pub aboveText : List ℕ → List ℕ → Text → Bool
-aboveText s key (Text.Bytes start end) = less (slice s start end) key
-aboveText s key (Text.Fault f) = false
+-- what is kept before the first entry, which is at an offset
+abbrev pub noneSeen : ℕ → Seen
+noneSeen first = record { first = first; start = 0; end = 0; marks = 0 }
+
+-- the same, by a search only where the key's mark is there
+unfoldable pub repeatedAt : List ℕ → Seen → List ℕ → ℕ → Bool
+repeatedAt s seen key end = cond (isMarked (seen .marks) key) (usedAt s (seen .first) key end) false
 
 -- is a key above those of the entries before an offset, of which the greatest is kept
 unfoldable pub aboveAt : List ℕ → Seen → ℕ → List ℕ → Bool
-aboveAt s seen at key = cond (leb at (seen .first)) true (aboveText s key (stringAt s (seen .greatest)))
+aboveAt s seen at key = cond (leb at (seen .first)) true (less (slice s (seen .start) (seen .end)) key)
+
+-- what is kept after a key: from start up to end where it is the greatest, else with its mark alone
+abbrev pub risen : List ℕ → Seen → ℕ → ℕ → Seen
+risen s seen start end = record { first = seen .first; start = start; end = end; marks = withMark (seen .marks) (slice s start end) }
+
+abbrev pub marked : Seen → List ℕ → Seen
+marked seen key = record { first = seen .first; start = seen .start; end = seen .end; marks = withMark (seen .marks) key }
 
 -- the check of a key that comes once and is not above the earlier ones
 abbrev pub unsorted : Profile → Seen → KeyCheck
 unsorted Profile.Loose seen = KeyCheck.Allowed seen
 unsorted Profile.Strict seen = KeyCheck.Refused 11
 
--- the check of a key whose entry is at an offset and whose value starts at `end`, as it is made from the payload
-unfoldable pub keyAt : Profile → List ℕ → Seen → ℕ → List ℕ → ℕ → KeyCheck
-keyAt p s seen at key end =
-    cond (aboveAt s seen at key) (KeyCheck.Allowed (record { first = seen .first; greatest = at }))
-    (cond (usedAt s (seen .first) key end) (KeyCheck.Refused 8) (unsorted p seen))
+-- the check of a key from start up to end, whose entry is at an offset, as it is made from the payload
+unfoldable pub keyAt : Profile → List ℕ → Seen → ℕ → ℕ → ℕ → KeyCheck
+keyAt p s seen at start end =
+    cond (aboveAt s seen at (slice s start end)) (KeyCheck.Allowed (risen s seen start end))
+    (cond (repeatedAt s seen (slice s start end) end) (KeyCheck.Refused 8) (unsorted p (marked seen (slice s start end))))

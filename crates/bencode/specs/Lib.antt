@@ -9,7 +9,9 @@ pub mod Key
 pub mod Walk
 pub mod Skip
 pub mod Entry
+pub mod Marks
 pub mod KeySearch
+pub mod Classes
 pub mod Item
 pub mod Value
 pub mod Field

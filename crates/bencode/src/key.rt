@@ -3,19 +3,36 @@ ghost use mathlib.Core.Path.{_≡_};
 ghost use Prim.Native.Nat.{_≤_};
 ghost use lib.ListN.{length};
 ghost use Rattle.octets.specs.Bytes.{slice};
-ghost use Rattle.bencode.specs.KeySearch.{usedAt, aboveAt, keyAt};
+ghost use Rattle.bencode.specs.KeySearch.{noneSeen, usedAt, repeatedAt, aboveAt, keyAt};
 use super::entry::Entry;
 use super::entry::find;
 use super::fault::Fault;
+use super::marks::is_marked;
+use super::marks::with_mark;
 use super::profile::Profile;
-use super::strings::Text;
-use super::strings::string;
 use octets::less;
 
-// What a walk keeps of a dictionary's earlier keys: the offset of the first entry, and of the one with the greatest key.
+// What a walk keeps of a dictionary's earlier keys: the offset of the first entry, where the greatest key starts and ends,
+// and the marks of all.
 pub struct Seen {
     pub first: usize,
-    pub greatest: usize,
+    pub start: usize,
+    pub end: usize,
+    pub marks: u64,
+}
+
+impl Seen {
+    // Before the first entry, which is at an offset.
+    pub fn none(first: usize) -> Seen
+        ensures { λ r. ⌜ r ≡ noneSeen first ⌝ }
+    {
+        Seen {
+            first,
+            start: 0,
+            end: 0,
+            marks: 0,
+        }
+    }
 }
 
 // The check of a key: what is kept after it where it is allowed, or the code of its fault.
@@ -36,23 +53,31 @@ fn key_used(s: &[u8], first: usize, start: usize, end: usize) -> bool
     }
 }
 
+// The same, by a search only where the key's mark is there.
+fn key_repeated(s: &[u8], seen: Seen, start: usize, end: usize) -> bool
+    requires { ⌜ (start ≤ end) × (end ≤ length (now s)) ⌝ }
+    ensures { λ r. ⌜ r ≡ repeatedAt (now (s .entry)) seen (slice (now (s .entry)) start end) end ⌝ }
+{
+    let first = seen.first;
+    let marks = seen.marks;
+    if is_marked(marks, &s[start..end]) {
+        return key_used(s, first, start, end);
+    }
+    false
+}
+
 // Is the key from start up to end above the greatest of the entries before at.
 fn key_above(s: &[u8], seen: Seen, at: usize, start: usize, end: usize) -> bool
-    requires { ⌜ (start ≤ end) × (end ≤ length (now s)) ⌝ }
+    requires { ⌜ (start ≤ end) × (end ≤ length (now s)) × (seen .start ≤ seen .end) × (seen .end ≤ length (now s)) ⌝ }
     ensures { λ r. ⌜ r ≡ aboveAt (now (s .entry)) seen at (slice (now (s .entry)) start end) ⌝ }
 {
     let first = seen.first;
-    let greatest = seen.greatest;
+    let from = seen.start;
+    let to = seen.end;
     if at <= first {
         return true;
     }
-    match string(s, greatest) {
-        Text::Bytes {
-            start: from,
-            end: to,
-        } => less(&s[from..to], &s[start..end]),
-        Text::Fault(_) => false,
-    }
+    less(&s[from..to], &s[start..end])
 }
 
 // Whether the key from start up to end, whose entry is at `at`, may stand after the earlier keys.
@@ -64,21 +89,31 @@ pub fn check_key(
     end: usize,
     profile: Profile,
 ) -> KeyCheck
-    requires { ⌜ (start ≤ end) × (end ≤ length (now s)) ⌝ }
-    ensures { λ r. ⌜ r ≡ keyAt profile (now (s .entry)) seen at (slice (now (s .entry)) start end) end ⌝ }
+    requires { ⌜ (start ≤ end) × (end ≤ length (now s)) × (seen .start ≤ seen .end) × (seen .end ≤ length (now s)) ⌝ }
+    ensures { λ r. ⌜ r ≡ keyAt profile (now (s .entry)) seen at start end ⌝ }
 {
     let first = seen.first;
+    let from = seen.start;
+    let to = seen.end;
+    let marks = with_mark(seen.marks, &s[start..end]);
     if key_above(s, seen, at, start, end) {
         return KeyCheck::Allowed(Seen {
             first,
-            greatest: at,
+            start,
+            end,
+            marks,
         });
     }
-    if key_used(s, first, start, end) {
+    if key_repeated(s, seen, start, end) {
         return KeyCheck::Refused(Fault::REPEATED_KEY);
     }
     match profile {
-        Profile::Loose => KeyCheck::Allowed(seen),
+        Profile::Loose => KeyCheck::Allowed(Seen {
+            first,
+            start: from,
+            end: to,
+            marks,
+        }),
         Profile::Strict => KeyCheck::Refused(Fault::UNSORTED_KEY),
     }
 }

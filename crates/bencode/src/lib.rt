@@ -1,5 +1,6 @@
 // Bencoded payloads: where a value ends or which byte is at fault, looking into a payload, and writing integers and strings.
 // Every function takes any bytes, also a payload that was not walked, and any offset; what has no room is not stored.
+mod classes;
 mod depth;
 mod entry;
 mod fault;
@@ -7,6 +8,7 @@ mod field;
 mod integers;
 mod item;
 mod key;
+mod marks;
 mod profile;
 mod put;
 mod scalar;

@@ -1,9 +1,13 @@
 // The walk of a payload: values, lists and dictionaries, which hold values again. Calls nest by level; items go by a loop.
 ghost use mathlib.Core.Path.{_≡_};
+ghost use mathlib.Core.Bool.{true};
 ghost use Prim.Native.Nat.{_≤_};
+ghost use Rattle.bencode.specs.Classes.{isTable};
 ghost use Rattle.bencode.specs.Depth.{largestDepth, levelsLeft};
 ghost use Rattle.bencode.specs.Fault.{codeOf, offsetOf};
-ghost use Rattle.bencode.specs.Walk.{valueAt, listAt, dictionaryAt, payloadAt, payloadCode, payloadOffset};
+ghost use Rattle.bencode.specs.Walk.{valueAt, listAt, dictionaryAt, whole, payloadAt, payloadCode, payloadOffset};
+use super::classes::class_at;
+use super::classes::classes;
 use super::depth::Deeper;
 use super::depth::Depth;
 use super::fault::Fault;
@@ -12,29 +16,30 @@ use super::key::KeyCheck;
 use super::key::Seen;
 use super::key::check_key;
 use super::profile::Profile;
+use super::scalar::after_scalar;
 use super::scalar::scalar_end;
 use super::strings::Text;
 use super::strings::string;
-use octets::byte_at;
+use super::strings::string_end;
 
 // The offset after the value at an offset, which stands at a depth.
-fn value(s: &[u8], at: usize, depth: Depth, profile: Profile) -> Walk
-    requires { ⌜ depth .0 ≤ largestDepth ⌝ }
+pub fn value(s: &[u8], at: usize, depth: Depth, profile: Profile, classes: &[u8; 256]) -> Walk
+    requires { ⌜ (depth .0 ≤ largestDepth) × (isTable (now classes) ≡ true) ⌝ }
     ensures { λ r. ⌜ r ≡ valueAt profile (levelsLeft depth) (now (s .entry)) at ⌝ }
 {
-    let b = byte_at(s, at);
-    if b == b'l' {
+    let class = class_at(classes, s, at);
+    if class == b'l' {
         return match depth.nested() {
-            Deeper::Depth(inner) => list(s, at + 1, inner, profile),
+            Deeper::Depth(inner) => list(s, at + 1, inner, profile, classes),
             Deeper::TooDeep => Walk::Fault(Fault {
                 code: Fault::DEPTH,
                 offset: at,
             }),
         };
     }
-    if b == b'd' {
+    if class == b'd' {
         return match depth.nested() {
-            Deeper::Depth(inner) => dictionary(s, at + 1, inner, profile),
+            Deeper::Depth(inner) => dictionary(s, at + 1, inner, profile, classes),
             Deeper::TooDeep => Walk::Fault(Fault {
                 code: Fault::DEPTH,
                 offset: at,
@@ -44,60 +49,85 @@ fn value(s: &[u8], at: usize, depth: Depth, profile: Profile) -> Walk
     scalar_end(s, at)
 }
 
-// The offset after the list whose values start at an offset.
-fn list(s: &[u8], from: usize, depth: Depth, profile: Profile) -> Walk
-    requires { ⌜ depth .0 ≤ largestDepth ⌝ }
+// The offset after the list whose values start at an offset. Only a value that is no string and no integer needs a call.
+pub fn list(s: &[u8], from: usize, depth: Depth, profile: Profile, classes: &[u8; 256]) -> Walk
+    requires { ⌜ (depth .0 ≤ largestDepth) × (isTable (now classes) ≡ true) ⌝ }
     ensures { λ r. ⌜ r ≡ listAt profile (levelsLeft depth) (now (s .entry)) from ⌝ }
 {
     let mut at = from;
     loop {
-        if byte_at(s, at) == b'e' {
+        if class_at(classes, s, at) == b'e' {
             return Walk::End(at + 1);
         }
-        match value(s, at, depth, profile) {
-            Walk::End(end) => {
-                at = end;
-            }
-            Walk::Fault(f) => {
-                return Walk::Fault(f);
+        let after = after_scalar(s, at);
+        if after != 0 {
+            at = after;
+        } else {
+            match value(s, at, depth, profile, classes) {
+                Walk::End(end) => {
+                    at = end;
+                }
+                Walk::Fault(f) => {
+                    return Walk::Fault(f);
+                }
             }
         }
     }
 }
 
 // The offset after the dictionary whose entries start at an offset.
-fn dictionary(s: &[u8], from: usize, depth: Depth, profile: Profile) -> Walk
-    requires { ⌜ depth .0 ≤ largestDepth ⌝ }
+fn dictionary(s: &[u8], from: usize, depth: Depth, profile: Profile, classes: &[u8; 256]) -> Walk
+    requires { ⌜ (depth .0 ≤ largestDepth) × (isTable (now classes) ≡ true) ⌝ }
     ensures { λ r. ⌜ r ≡ dictionaryAt profile (levelsLeft depth) (now (s .entry)) from ⌝ }
 {
     let mut at = from;
-    let mut seen = Seen {
-        first: from,
-        greatest: from,
-    };
+    let mut seen = Seen::none(from);
     loop {
-        if byte_at(s, at) == b'e' {
+        if class_at(classes, s, at) == b'e' {
             return Walk::End(at + 1);
         }
-        match string(s, at) {
-            Text::Fault(f) => {
-                return Walk::Fault(f);
+        let Text::Bytes { start, end } = string(s, at) else {
+            return string_end(s, at);
+        };
+        match check_key(s, seen, at, start, end, profile) {
+            KeyCheck::Refused(code) => {
+                return Walk::Fault(Fault { code, offset: at });
             }
-            Text::Bytes { start, end } => match check_key(s, seen, at, start, end, profile) {
-                KeyCheck::Refused(code) => {
-                    return Walk::Fault(Fault { code, offset: at });
-                }
-                KeyCheck::Allowed(next) => match value(s, end, depth, profile) {
-                    Walk::End(after) => {
-                        seen = next;
-                        at = after;
-                    }
-                    Walk::Fault(f) => {
-                        return Walk::Fault(f);
-                    }
-                },
-            },
+            KeyCheck::Allowed(next) => {
+                seen = next;
+            }
         }
+        let after = after_scalar(s, end);
+        if after != 0 {
+            at = after;
+        } else {
+            match value(s, end, depth, profile, classes) {
+                Walk::End(to) => {
+                    at = to;
+                }
+                Walk::Fault(f) => {
+                    return Walk::Fault(f);
+                }
+            }
+        }
+    }
+}
+
+// The end of a payload, which is the end of its value: no byte follows.
+pub fn whole(s: &[u8], walk: Walk) -> Walk
+    ensures { λ r. ⌜ r ≡ whole (now (s .entry)) walk ⌝ }
+{
+    match walk {
+        Walk::End(end) => {
+            if end == s.len() {
+                return Walk::End(end);
+            }
+            Walk::Fault(Fault {
+                code: Fault::TRAILING,
+                offset: end,
+            })
+        }
+        Walk::Fault(f) => Walk::Fault(f),
     }
 }
 
@@ -106,17 +136,6 @@ pub fn payload(s: &[u8], profile: Profile) -> Walk
     ensures { λ r. ⌜ r ≡ payloadAt profile (now (s .entry)) ⌝ }
     ensures { λ r. ⌜ (codeOf r ≡ payloadCode profile (now (s .entry))) × (offsetOf r ≡ payloadOffset profile (now (s .entry))) ⌝ }
 {
-    match value(s, 0, Depth::outermost(), profile) {
-        Walk::End(end) => {
-            if end == s.len() {
-                Walk::End(end)
-            } else {
-                Walk::Fault(Fault {
-                    code: Fault::TRAILING,
-                    offset: end,
-                })
-            }
-        }
-        Walk::Fault(f) => Walk::Fault(f),
-    }
+    let table = classes();
+    whole(s, value(s, 0, Depth::outermost(), profile, &table))
 }

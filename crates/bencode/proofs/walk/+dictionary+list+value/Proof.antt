@@ -2,22 +2,26 @@
 -- `dictionary` are called with one level less left and call `value` with as many, so theirs lie between.
 -- In the loops the bytes left fall. Their invariants say that what is left to walk comes to the same as the whole; for a
 -- dictionary also that `seen` is what is kept of the keys so far.
--- Each return cites the law of `WalkLaws` for that way. Nothing here says which keys are allowed: that is `KeyLaws`.
+-- Each return cites the law of `WalkLaws` for that way, and what a class says of its byte by `ClassLaws`. Nothing here says which
+-- keys are allowed: that is `KeyLaws`.
 -- Assumes nothing.
 use Prim.Native.Nat.{ℕ, _+_, _-_, _*_, _<_}
-use mathlib.Core.Path.{_≡_, refl, sym, _∙_}
+use mathlib.Core.Path.{_≡_, refl, sym, ap, subst, _∙_}
 use mathlib.Core.List.{List, [], _∷_}
 use native.Mathlib.Omega.{arith}
 use borrow.Author.Needs.{needs}
 use lib.ListN.{length}
+use Rattle.bencode.specs.declared.key.Seen.{Seen}
 use Rattle.bencode.specs.declared.strings.Text.{Text}
-use Rattle.bencode.specs.Strings.{stringAt}
-use Rattle.octets.specs.Bytes.{slice}
+use Rattle.bencode.specs.Strings.{stringAt, textEnd}
+use Rattle.bencode.specs.Scalar.{scalarAt}
+use Rattle.octets.specs.Bytes.{byteAt, slice}
 use Rattle.bencode.specs.Depth.{levelsLeft}
 use Rattle.bencode.specs.Walk.{valueAt, listAt, dictionaryAt, dictionaryFrom}
 use Rattle.octets.proofs.digits.NumeralLaws.{inside}
-use Rattle.bencode.proofs.walking.Ends.{string-whole-inv}
-use Rattle.bencode.proofs.walking.WalkLaws.{value-ends, value-scalar, value-list, value-dictionary, value-deep-list, value-deep-dictionary, list-end, list-fault, list-more, dictionary-end, dictionary-no-key, dictionary-refused, dictionary-fault, dictionary-more}
+use Rattle.bencode.proofs.walking.ClassLaws.{class-is, class-is-not}
+use Rattle.bencode.proofs.walking.Ends.{string-whole-inv, after-end}
+use Rattle.bencode.proofs.walking.WalkLaws.{value-ends, value-scalar, value-list, value-dictionary, value-deep-list, value-deep-dictionary, scalar-value, list-end, list-fault, list-more, dictionary-end, dictionary-no-key, dictionary-refused, dictionary-fault, dictionary-more}
 use Rattle.bencode.proofs.walking.DepthLaws.{deeper-left, too-deep-left}
 use Rattle.bencode.proofs.walking.KeyLaws.{Kept, kept-none, key-allowed, key-refused}
 use borrow.Fn.Kinds.{In}
@@ -31,225 +35,310 @@ use Rattle.bencode.proofs.walk.+dictionary+list+value.Lts-list as list-
 use Rattle.bencode.proofs.walk.value.Reads as value
 use Rattle.bencode.proofs.walk.value.Kinds as value-kinds
 use Rattle.bencode.proofs.walk.+dictionary+list+value.Lts-value as value-lts
-use Rattle.octets.proofs.byte_at.Reads as byte-at-reads
+use Rattle.bencode.proofs.classes.class_at.Reads as class-at-reads
 use Rattle.bencode.proofs.depth.Depth.nested.Reads as nested-reads
+use Rattle.bencode.proofs.key.Seen.none.Reads as none-reads
 use Rattle.bencode.proofs.key.check_key.Reads as check-key-reads
+use Rattle.bencode.proofs.scalar.after_scalar.Reads as after-scalar-reads
 use Rattle.bencode.proofs.scalar.scalar_end.Reads as scalar-end-reads
 use Rattle.bencode.proofs.strings.string.Reads as string-reads
+use Rattle.bencode.proofs.strings.string_end.Reads as string-end-reads
 use Rattle.bencode.proofs.walk.+dictionary+list+value.{statement}
 use Rattle.bencode.proofs.walk.+dictionary+list+value.Tie.{close}
 
-abbrev μ-dictionary : Measures 1 dictionary-kinds.ps ℕ
+abbrev μ-dictionary : Measures 2 dictionary-kinds.ps ℕ
 μ-dictionary κs a = 2 * levelsLeft (a .1 .1 .0) + 1
 
-abbrev μ-list : Measures 1 list-kinds.ps ℕ
+abbrev μ-list : Measures 2 list-kinds.ps ℕ
 μ-list κs a = 2 * levelsLeft (a .1 .1 .0) + 1
 
-abbrev μ-value : Measures 1 value-kinds.ps ℕ
+abbrev μ-value : Measures 2 value-kinds.ps ℕ
 μ-value κs a = 2 * levelsLeft (a .1 .1 .0)
 
-abbrev dictionary-at : ℕ → In 1 dictionary-kinds.ps
+abbrev dictionary-at : ℕ → In 2 dictionary-kinds.ps
 dictionary-at t =
-    and 1 dictionary-kinds.ps (is 1 dictionary-kinds.ps μ-dictionary t) dictionary.Pre
+    and 2 dictionary-kinds.ps (is 2 dictionary-kinds.ps μ-dictionary t) dictionary.Pre
 
-abbrev dictionary-below : ℕ → In 1 dictionary-kinds.ps
+abbrev dictionary-below : ℕ → In 2 dictionary-kinds.ps
 dictionary-below t =
-    and 1 dictionary-kinds.ps (falls 1 dictionary-kinds.ps _<_ μ-dictionary t) dictionary.Pre
+    and 2 dictionary-kinds.ps (falls 2 dictionary-kinds.ps _<_ μ-dictionary t) dictionary.Pre
 
-abbrev list-at : ℕ → In 1 list-kinds.ps
-list-at t = and 1 list-kinds.ps (is 1 list-kinds.ps μ-list t) list.Pre
+abbrev list-at : ℕ → In 2 list-kinds.ps
+list-at t = and 2 list-kinds.ps (is 2 list-kinds.ps μ-list t) list.Pre
 
-abbrev list-below : ℕ → In 1 list-kinds.ps
-list-below t = and 1 list-kinds.ps (falls 1 list-kinds.ps _<_ μ-list t) list.Pre
+abbrev list-below : ℕ → In 2 list-kinds.ps
+list-below t = and 2 list-kinds.ps (falls 2 list-kinds.ps _<_ μ-list t) list.Pre
 
-abbrev value-at : ℕ → In 1 value-kinds.ps
-value-at t = and 1 value-kinds.ps (is 1 value-kinds.ps μ-value t) value.Pre
+abbrev value-at : ℕ → In 2 value-kinds.ps
+value-at t = and 2 value-kinds.ps (is 2 value-kinds.ps μ-value t) value.Pre
 
-abbrev value-below : ℕ → In 1 value-kinds.ps
-value-below t = and 1 value-kinds.ps (falls 1 value-kinds.ps _<_ μ-value t) value.Pre
+abbrev value-below : ℕ → In 2 value-kinds.ps
+value-below t = and 2 value-kinds.ps (falls 2 value-kinds.ps _<_ μ-value t) value.Pre
 
--- what `dictionary` may ask and learn of the functions that it calls
+-- what each may ask and learn of the functions that it calls
 abbrev dictionary-calls : ℕ → dictionary-lts.Claims
-dictionary-calls t = (byte-at-reads.Asked, byte-at-reads.Learnt, string-reads.Asked, string-reads.Learnt, check-key-reads.Asked, check-key-reads.Learnt, value-below t, value.Post)
+dictionary-calls t = (none-reads.Asked, none-reads.Learnt, class-at-reads.Asked, class-at-reads.Learnt, string-reads.Asked, string-reads.Learnt, string-end-reads.Asked, string-end-reads.Learnt, check-key-reads.Asked, check-key-reads.Learnt, after-scalar-reads.Asked, after-scalar-reads.Learnt, value-below t, value.Post)
 
--- what `list` may ask and learn of the functions that it calls
 abbrev list-calls : ℕ → list-lts.Claims
-list-calls t = (byte-at-reads.Asked, byte-at-reads.Learnt, value-below t, value.Post)
+list-calls t = (class-at-reads.Asked, class-at-reads.Learnt, after-scalar-reads.Asked, after-scalar-reads.Learnt, value-below t, value.Post)
 
--- what `value` may ask and learn of the functions that it calls
 abbrev value-calls : ℕ → value-lts.Claims
-value-calls t = (byte-at-reads.Asked, byte-at-reads.Learnt, nested-reads.Asked, nested-reads.Learnt, list-below t, list.Post, dictionary-below t, dictionary.Post, scalar-end-reads.Asked, scalar-end-reads.Learnt)
+value-calls t = (class-at-reads.Asked, class-at-reads.Learnt, nested-reads.Asked, nested-reads.Learnt, list-below t, list.Post, dictionary-below t, dictionary.Post, scalar-end-reads.Asked, scalar-end-reads.Learnt)
 
 abbrev dictionary-Inv-loop : dictionary-lts.InvT-loop
-dictionary-Inv-loop s from depth profile at₀ seen₀ at seen = (keys : List (List ℕ)) × Kept (valueAt profile (levelsLeft depth) s) s seen at keys × (dictionaryFrom profile (valueAt profile (levelsLeft depth) s) s at keys ≡ dictionaryAt profile (levelsLeft depth) s from)
+dictionary-Inv-loop s from depth profile classes at₀ seen₀ at seen = (keys : List (List ℕ)) × Kept (valueAt profile (levelsLeft depth) s) s seen at keys × (dictionaryFrom profile (valueAt profile (levelsLeft depth) s) s at keys ≡ dictionaryAt profile (levelsLeft depth) s from)
 
 abbrev dictionary-μ-loop : dictionary-lts.MeasureT-loop
-dictionary-μ-loop s from depth profile at₀ seen₀ at seen = length s - at
+dictionary-μ-loop s from depth profile classes at₀ seen₀ at seen = length s - at
+
+dictionary-none-requires : (t : ℕ) → dictionary-lts.Need-none-requires (dictionary-calls t) (dictionary-at t) dictionary.Post dictionary-Inv-loop dictionary-μ-loop
+dictionary-none-requires t c κs = tt
 
 dictionary-loop-holds : (t : ℕ) → dictionary-lts.Need-loop-holds (dictionary-calls t) (dictionary-at t) dictionary.Post dictionary-Inv-loop dictionary-μ-loop
-dictionary-loop-holds t c = ([], kept-none (valueAt (c .before .args .profile) (levelsLeft (c .before .args .depth)) (c .before .args .s .now)) (c .before .args .s .now) (c .before .args .from), refl)
-
-dictionary-byte-at-requires : (t : ℕ) → dictionary-lts.Need-byte-at-requires (dictionary-calls t) (dictionary-at t) dictionary.Post dictionary-Inv-loop dictionary-μ-loop
-dictionary-byte-at-requires t c κs = tt
-
-dictionary-add-t16 : (t : ℕ) → dictionary-lts.Need-add-t16 (dictionary-calls t) (dictionary-at t) dictionary.Post dictionary-Inv-loop dictionary-μ-loop
-dictionary-add-t16 t c =
-    let a = c .before .before .before .before .args in
+dictionary-loop-holds t c =
+    let a = c .before .before .args in
     let s = a .s .now in
+    let value = valueAt (a .profile) (levelsLeft (a .depth)) s in
+    ([], subst (λ (x : Seen). Kept value s x (a .from) []) (sym (c .none .ensures)) (kept-none value s (a .from)), refl)
+
+dictionary-class-at-requires : (t : ℕ) → dictionary-lts.Need-class-at-requires (dictionary-calls t) (dictionary-at t) dictionary.Post dictionary-Inv-loop dictionary-μ-loop
+dictionary-class-at-requires t c κs = c .before .before .before .pre .1 .1
+
+dictionary-add-t17 : (t : ℕ) → dictionary-lts.Need-add-t17 (dictionary-calls t) (dictionary-at t) dictionary.Post dictionary-Inv-loop dictionary-μ-loop
+dictionary-add-t17 t c =
+    let a = c .before .before .before .before .before .args in
+    let s = a .s .now in
+    let levels = levelsLeft (a .depth) in
     let l = c .before .before .loop in
-    omega (arith, inside s (l .at) (omega (arith, c .before .byte-at .ensures)))
+    let e = class-is 101 refl (byteAt s (l .at)) (sym (c .before .class-at .ensures) ∙ c .if1 .taken) in
+    omega (arith, inside s (l .at) (omega (arith, e)))
 
 dictionary-returns : (t : ℕ) → dictionary-lts.Need-returns (dictionary-calls t) (dictionary-at t) dictionary.Post dictionary-Inv-loop dictionary-μ-loop
 dictionary-returns t c =
-    let a = c .before .before .before .before .args in
+    let a = c .before .before .before .before .before .args in
     let s = a .s .now in
+    let levels = levelsLeft (a .depth) in
     let l = c .before .before .loop in
-    dictionary-end (a .profile) (levelsLeft (a .depth)) s (l .at) (l .inv .0) (omega (arith, c .before .byte-at .ensures)) ∙ l .inv .2
+    dictionary-end (a .profile) levels s (l .at) (l .inv .0) (class-is 101 refl (byteAt s (l .at)) (sym (c .before .class-at .ensures) ∙ c .if1 .taken)) ∙ l .inv .2
 
 dictionary-string-requires : (t : ℕ) → dictionary-lts.Need-string-requires (dictionary-calls t) (dictionary-at t) dictionary.Post dictionary-Inv-loop dictionary-μ-loop
 dictionary-string-requires t c κs = tt
 
-dictionary-enum-known-f : (t : ℕ) → dictionary-lts.Need-enum-known-f (dictionary-calls t) (dictionary-at t) dictionary.Post dictionary-Inv-loop dictionary-μ-loop
-dictionary-enum-known-f t c = search needs
-
-dictionary-returns-2 : (t : ℕ) → dictionary-lts.Need-returns-2 (dictionary-calls t) (dictionary-at t) dictionary.Post dictionary-Inv-loop dictionary-μ-loop
-dictionary-returns-2 t c =
-    let a = c .before .before .before .before .before .before .before .before .args in
-    let s = a .s .now in
-    let l = c .before .before .before .before .before .before .loop in
-    dictionary-no-key (a .profile) (levelsLeft (a .depth)) s (l .at) (l .inv .0) (λ e. c .before .before .before .before .if1 .left (c .before .before .before .before .before .byte-at .ensures ∙ e)) (c .before .f .given .0 .0) (sym (c .before .before .before .string .ensures) ∙ c .before .f .given .1) ∙ l .inv .2
-
 dictionary-enum-known-start : (t : ℕ) → dictionary-lts.Need-enum-known-start (dictionary-calls t) (dictionary-at t) dictionary.Post dictionary-Inv-loop dictionary-μ-loop
 dictionary-enum-known-start t c = search needs
 
+dictionary-enum-told : (t : ℕ) → dictionary-lts.Need-enum-told (dictionary-calls t) (dictionary-at t) dictionary.Post dictionary-Inv-loop dictionary-μ-loop
+dictionary-enum-told t c = search needs
+
+dictionary-string-end-requires : (t : ℕ) → dictionary-lts.Need-string-end-requires (dictionary-calls t) (dictionary-at t) dictionary.Post dictionary-Inv-loop dictionary-μ-loop
+dictionary-string-end-requires t c κs = tt
+
+dictionary-returns-2 : (t : ℕ) → dictionary-lts.Need-returns-2 (dictionary-calls t) (dictionary-at t) dictionary.Post dictionary-Inv-loop dictionary-μ-loop
+dictionary-returns-2 t c =
+    let a = c .before .before .before .before .before .before .before .before .before .args in
+    let s = a .s .now in
+    let levels = levelsLeft (a .depth) in
+    let l = c .before .before .before .before .before .before .loop in
+    let more = class-is-not 101 refl (byteAt s (l .at)) (λ e. c .before .before .before .before .if1 .left (c .before .before .before .before .before .class-at .ensures ∙ e)) in
+    let f = c .before .enum-told .given in
+    let text : stringAt s (l .at) ≡ Text.Fault (f .0 .0) = sym (c .before .before .before .string .ensures) ∙ f .1 in
+    c .string-end .ensures ∙ ap textEnd text ∙ dictionary-no-key (a .profile) levels s (l .at) (l .inv .0) more (f .0 .0) text ∙ l .inv .2
+
 dictionary-check-key-requires : (t : ℕ) → dictionary-lts.Need-check-key-requires (dictionary-calls t) (dictionary-at t) dictionary.Post dictionary-Inv-loop dictionary-μ-loop
 dictionary-check-key-requires t c κs =
-    let a = c .before .before .before .before .before .before .before .before .args in
+    let a = c .before .before .before .before .before .before .before .before .before .args in
     let s = a .s .now in
+    let levels = levelsLeft (a .depth) in
     let l = c .before .before .before .before .before .before .loop in
     let k = c .before .start .given in
     let text : stringAt s (l .at) ≡ Text.Bytes (k .0 .0) (k .0 .1 .0) = sym (c .before .before .before .string .ensures) ∙ k .1 in
     let w = string-whole-inv s (l .at) (k .0 .0) (k .0 .1 .0) text in
-    (w .ordered, w .within)
+    (w .ordered, w .within, l .inv .1 .ordered, l .inv .1 .within)
 
 dictionary-enum-known-code : (t : ℕ) → dictionary-lts.Need-enum-known-code (dictionary-calls t) (dictionary-at t) dictionary.Post dictionary-Inv-loop dictionary-μ-loop
 dictionary-enum-known-code t c = search needs
 
 dictionary-returns-3 : (t : ℕ) → dictionary-lts.Need-returns-3 (dictionary-calls t) (dictionary-at t) dictionary.Post dictionary-Inv-loop dictionary-μ-loop
 dictionary-returns-3 t c =
-    let a = c .before .before .before .before .before .before .before .before .before .before .before .before .args in
+    let a = c .before .before .before .before .before .before .before .before .before .before .before .before .before .args in
     let s = a .s .now in
+    let levels = levelsLeft (a .depth) in
     let l = c .before .before .before .before .before .before .before .before .before .before .loop in
+    let more = class-is-not 101 refl (byteAt s (l .at)) (λ e. c .before .before .before .before .before .before .before .before .if1 .left (c .before .before .before .before .before .before .before .before .before .class-at .ensures ∙ e)) in
     let k = c .before .before .before .before .before .start .given in
     let text : stringAt s (l .at) ≡ Text.Bytes (k .0 .0) (k .0 .1 .0) = sym (c .before .before .before .before .before .before .before .string .ensures) ∙ k .1 in
     let n = c .before .code .given in
-    let no = key-refused (a .profile) (levelsLeft (a .depth)) s (l .seen) (l .at) (l .inv .0) (l .inv .1) (k .0 .0) (k .0 .1 .0) text (n .0 .0) (sym (c .before .before .before .check-key .ensures) ∙ n .1) in
-    dictionary-refused (a .profile) (levelsLeft (a .depth)) s (l .at) (l .inv .0) (λ e. c .before .before .before .before .before .before .before .before .if1 .left (c .before .before .before .before .before .before .before .before .before .byte-at .ensures ∙ e)) (k .0 .0) (k .0 .1 .0) text (n .0 .0) no ∙ l .inv .2
+    let no = key-refused (a .profile) levels s (l .seen) (l .at) (l .inv .0) (l .inv .1) (k .0 .0) (k .0 .1 .0) text (n .0 .0) (sym (c .before .before .before .check-key .ensures) ∙ n .1) in
+    dictionary-refused (a .profile) levels s (l .at) (l .inv .0) more (k .0 .0) (k .0 .1 .0) text (n .0 .0) no ∙ l .inv .2
 
 dictionary-enum-known-next : (t : ℕ) → dictionary-lts.Need-enum-known-next (dictionary-calls t) (dictionary-at t) dictionary.Post dictionary-Inv-loop dictionary-μ-loop
 dictionary-enum-known-next t c = search needs
 
-dictionary-value-requires : (t : ℕ) → dictionary-lts.Need-value-requires (dictionary-calls t) (dictionary-at t) dictionary.Post dictionary-Inv-loop dictionary-μ-loop
-dictionary-value-requires t c κs = (omega (arith, c .before .before .before .before .before .before .before .before .before .before .before .before .pre .0), c .before .before .before .before .before .before .before .before .before .before .before .before .pre .1)
-
-dictionary-enum-known-after : (t : ℕ) → dictionary-lts.Need-enum-known-after (dictionary-calls t) (dictionary-at t) dictionary.Post dictionary-Inv-loop dictionary-μ-loop
-dictionary-enum-known-after t c = search needs
+dictionary-after-scalar-requires : (t : ℕ) → dictionary-lts.Need-after-scalar-requires (dictionary-calls t) (dictionary-at t) dictionary.Post dictionary-Inv-loop dictionary-μ-loop
+dictionary-after-scalar-requires t c κs = tt
 
 dictionary-loop-less : (t : ℕ) → dictionary-lts.Need-loop-less (dictionary-calls t) (dictionary-at t) dictionary.Post dictionary-Inv-loop dictionary-μ-loop
 dictionary-loop-less t c =
-    let a = c .before .before .before .before .before .before .before .before .before .before .before .before .before .before .before .before .args in
+    let a = c .before .before .before .before .before .before .before .before .before .before .before .before .before .before .before .args in
     let s = a .s .now in
-    let l = c .before .before .before .before .before .before .before .before .before .before .before .before .before .before .loop in
-    let k = c .before .before .before .before .before .before .before .before .before .start .given in
-    let text : stringAt s (l .at) ≡ Text.Bytes (k .0 .0) (k .0 .1 .0) = sym (c .before .before .before .before .before .before .before .before .before .before .before .string .ensures) ∙ k .1 in
+    let levels = levelsLeft (a .depth) in
+    let l = c .before .before .before .before .before .before .before .before .before .before .before .before .loop in
+    let k = c .before .before .before .before .before .before .before .start .given in
+    let text : stringAt s (l .at) ≡ Text.Bytes (k .0 .0) (k .0 .1 .0) = sym (c .before .before .before .before .before .before .before .before .before .string .ensures) ∙ k .1 in
+    let v = scalar-value (a .profile) levels s (k .0 .1 .0) (c .before .after-scalar .result) (after-end (scalarAt s (k .0 .1 .0)) (c .before .after-scalar .result) (c .before .after-scalar .ensures) (c .if2 .taken)) in
     let w = string-whole-inv s (l .at) (k .0 .0) (k .0 .1 .0) text in
-    omega (arith, value-ends (a .profile) (levelsLeft (a .depth)) s (k .0 .1 .0) (c .before .after .given .0 .0) (sym (c .before .before .before .value .ensures) ∙ c .before .after .given .1))
+    omega (arith, value-ends (a .profile) levels s (k .0 .1 .0) (c .before .after-scalar .result) v)
 
 dictionary-loop-again : (t : ℕ) → dictionary-lts.Need-loop-again (dictionary-calls t) (dictionary-at t) dictionary.Post dictionary-Inv-loop dictionary-μ-loop
 dictionary-loop-again t c =
-    let a = c .before .before .before .before .before .before .before .before .before .before .before .before .before .before .before .before .args in
+    let a = c .before .before .before .before .before .before .before .before .before .before .before .before .before .before .before .args in
     let s = a .s .now in
-    let l = c .before .before .before .before .before .before .before .before .before .before .before .before .before .before .loop in
-    let k = c .before .before .before .before .before .before .before .before .before .start .given in
-    let text : stringAt s (l .at) ≡ Text.Bytes (k .0 .0) (k .0 .1 .0) = sym (c .before .before .before .before .before .before .before .before .before .before .before .string .ensures) ∙ k .1 in
-    let ok = key-allowed (a .profile) (levelsLeft (a .depth)) s (l .seen) (l .at) (l .inv .0) (l .inv .1) (k .0 .0) (k .0 .1 .0) text (c .before .before .before .before .before .next .given .0 .0) (sym (c .before .before .before .before .before .before .before .check-key .ensures) ∙ c .before .before .before .before .before .next .given .1) in
-    let value = sym (c .before .before .before .value .ensures) ∙ c .before .after .given .1 in (
-      slice s (k .0 .0) (k .0 .1 .0) ∷ l .inv .0,
-      ok .1 (c .before .after .given .0 .0) value,
-      dictionary-more (a .profile) (levelsLeft (a .depth)) s (l .at) (l .inv .0) (λ e. c .before .before .before .before .before .before .before .before .before .before .before .before .if1 .left (c .before .before .before .before .before .before .before .before .before .before .before .before .before .byte-at .ensures ∙ e)) (k .0 .0) (k .0 .1 .0) text (ok .0) (c .before .after .given .0 .0) value ∙ l .inv .2,
-    )
+    let levels = levelsLeft (a .depth) in
+    let l = c .before .before .before .before .before .before .before .before .before .before .before .before .loop in
+    let more = class-is-not 101 refl (byteAt s (l .at)) (λ e. c .before .before .before .before .before .before .before .before .before .before .if1 .left (c .before .before .before .before .before .before .before .before .before .before .before .class-at .ensures ∙ e)) in
+    let k = c .before .before .before .before .before .before .before .start .given in
+    let text : stringAt s (l .at) ≡ Text.Bytes (k .0 .0) (k .0 .1 .0) = sym (c .before .before .before .before .before .before .before .before .before .string .ensures) ∙ k .1 in
+    let n = c .before .before .before .next .given in
+    let ok = key-allowed (a .profile) levels s (l .seen) (l .at) (l .inv .0) (l .inv .1) (k .0 .0) (k .0 .1 .0) text (n .0 .0) (sym (c .before .before .before .before .before .check-key .ensures) ∙ n .1) in
+    let v = scalar-value (a .profile) levels s (k .0 .1 .0) (c .before .after-scalar .result) (after-end (scalarAt s (k .0 .1 .0)) (c .before .after-scalar .result) (c .before .after-scalar .ensures) (c .if2 .taken)) in
+    (slice s (k .0 .0) (k .0 .1 .0) ∷ l .inv .0, ok .1 (c .before .after-scalar .result) v, dictionary-more (a .profile) levels s (l .at) (l .inv .0) more (k .0 .0) (k .0 .1 .0) text (ok .0) (c .before .after-scalar .result) v ∙ l .inv .2)
 
-dictionary-enum-known-f-2 : (t : ℕ) → dictionary-lts.Need-enum-known-f-2 (dictionary-calls t) (dictionary-at t) dictionary.Post dictionary-Inv-loop dictionary-μ-loop
-dictionary-enum-known-f-2 t c = search needs
+dictionary-value-requires : (t : ℕ) → dictionary-lts.Need-value-requires (dictionary-calls t) (dictionary-at t) dictionary.Post dictionary-Inv-loop dictionary-μ-loop
+dictionary-value-requires t c κs = (omega (arith, c .before .before .before .before .before .before .before .before .before .before .before .before .before .before .before .pre .0), c .before .before .before .before .before .before .before .before .before .before .before .before .before .before .before .pre .1)
+
+dictionary-enum-known-to : (t : ℕ) → dictionary-lts.Need-enum-known-to (dictionary-calls t) (dictionary-at t) dictionary.Post dictionary-Inv-loop dictionary-μ-loop
+dictionary-enum-known-to t c = search needs
+
+dictionary-loop-less-2 : (t : ℕ) → dictionary-lts.Need-loop-less-2 (dictionary-calls t) (dictionary-at t) dictionary.Post dictionary-Inv-loop dictionary-μ-loop
+dictionary-loop-less-2 t c =
+    let a = c .before .before .before .before .before .before .before .before .before .before .before .before .before .before .before .before .before .before .before .args in
+    let s = a .s .now in
+    let levels = levelsLeft (a .depth) in
+    let l = c .before .before .before .before .before .before .before .before .before .before .before .before .before .before .before .before .loop in
+    let k = c .before .before .before .before .before .before .before .before .before .before .before .start .given in
+    let text : stringAt s (l .at) ≡ Text.Bytes (k .0 .0) (k .0 .1 .0) = sym (c .before .before .before .before .before .before .before .before .before .before .before .before .before .string .ensures) ∙ k .1 in
+    let v = sym (c .before .before .before .value .ensures) ∙ c .before .to .given .1 in
+    let w = string-whole-inv s (l .at) (k .0 .0) (k .0 .1 .0) text in
+    omega (arith, value-ends (a .profile) levels s (k .0 .1 .0) (c .before .to .given .0 .0) v)
+
+dictionary-loop-again-2 : (t : ℕ) → dictionary-lts.Need-loop-again-2 (dictionary-calls t) (dictionary-at t) dictionary.Post dictionary-Inv-loop dictionary-μ-loop
+dictionary-loop-again-2 t c =
+    let a = c .before .before .before .before .before .before .before .before .before .before .before .before .before .before .before .before .before .before .before .args in
+    let s = a .s .now in
+    let levels = levelsLeft (a .depth) in
+    let l = c .before .before .before .before .before .before .before .before .before .before .before .before .before .before .before .before .loop in
+    let more = class-is-not 101 refl (byteAt s (l .at)) (λ e. c .before .before .before .before .before .before .before .before .before .before .before .before .before .before .if1 .left (c .before .before .before .before .before .before .before .before .before .before .before .before .before .before .before .class-at .ensures ∙ e)) in
+    let k = c .before .before .before .before .before .before .before .before .before .before .before .start .given in
+    let text : stringAt s (l .at) ≡ Text.Bytes (k .0 .0) (k .0 .1 .0) = sym (c .before .before .before .before .before .before .before .before .before .before .before .before .before .string .ensures) ∙ k .1 in
+    let n = c .before .before .before .before .before .before .before .next .given in
+    let ok = key-allowed (a .profile) levels s (l .seen) (l .at) (l .inv .0) (l .inv .1) (k .0 .0) (k .0 .1 .0) text (n .0 .0) (sym (c .before .before .before .before .before .before .before .before .before .check-key .ensures) ∙ n .1) in
+    let v = sym (c .before .before .before .value .ensures) ∙ c .before .to .given .1 in
+    (slice s (k .0 .0) (k .0 .1 .0) ∷ l .inv .0, ok .1 (c .before .to .given .0 .0) v, dictionary-more (a .profile) levels s (l .at) (l .inv .0) more (k .0 .0) (k .0 .1 .0) text (ok .0) (c .before .to .given .0 .0) v ∙ l .inv .2)
+
+dictionary-enum-known-f : (t : ℕ) → dictionary-lts.Need-enum-known-f (dictionary-calls t) (dictionary-at t) dictionary.Post dictionary-Inv-loop dictionary-μ-loop
+dictionary-enum-known-f t c = search needs
 
 dictionary-returns-4 : (t : ℕ) → dictionary-lts.Need-returns-4 (dictionary-calls t) (dictionary-at t) dictionary.Post dictionary-Inv-loop dictionary-μ-loop
 dictionary-returns-4 t c =
-    let a = c .before .before .before .before .before .before .before .before .before .before .before .before .before .before .before .before .args in
+    let a = c .before .before .before .before .before .before .before .before .before .before .before .before .before .before .before .before .before .before .before .args in
     let s = a .s .now in
-    let l = c .before .before .before .before .before .before .before .before .before .before .before .before .before .before .loop in
-    let k = c .before .before .before .before .before .before .before .before .before .start .given in
-    let text : stringAt s (l .at) ≡ Text.Bytes (k .0 .0) (k .0 .1 .0) = sym (c .before .before .before .before .before .before .before .before .before .before .before .string .ensures) ∙ k .1 in
-    let ok = key-allowed (a .profile) (levelsLeft (a .depth)) s (l .seen) (l .at) (l .inv .0) (l .inv .1) (k .0 .0) (k .0 .1 .0) text (c .before .before .before .before .before .next .given .0 .0) (sym (c .before .before .before .before .before .before .before .check-key .ensures) ∙ c .before .before .before .before .before .next .given .1) in
-    dictionary-fault (a .profile) (levelsLeft (a .depth)) s (l .at) (l .inv .0) (λ e. c .before .before .before .before .before .before .before .before .before .before .before .before .if1 .left (c .before .before .before .before .before .before .before .before .before .before .before .before .before .byte-at .ensures ∙ e)) (k .0 .0) (k .0 .1 .0) text (ok .0) (c .before .f2 .given .0 .0) (sym (c .before .before .before .value .ensures) ∙ c .before .f2 .given .1) ∙ l .inv .2
+    let levels = levelsLeft (a .depth) in
+    let l = c .before .before .before .before .before .before .before .before .before .before .before .before .before .before .before .before .loop in
+    let more = class-is-not 101 refl (byteAt s (l .at)) (λ e. c .before .before .before .before .before .before .before .before .before .before .before .before .before .before .if1 .left (c .before .before .before .before .before .before .before .before .before .before .before .before .before .before .before .class-at .ensures ∙ e)) in
+    let k = c .before .before .before .before .before .before .before .before .before .before .before .start .given in
+    let text : stringAt s (l .at) ≡ Text.Bytes (k .0 .0) (k .0 .1 .0) = sym (c .before .before .before .before .before .before .before .before .before .before .before .before .before .string .ensures) ∙ k .1 in
+    let n = c .before .before .before .before .before .before .before .next .given in
+    let ok = key-allowed (a .profile) levels s (l .seen) (l .at) (l .inv .0) (l .inv .1) (k .0 .0) (k .0 .1 .0) text (n .0 .0) (sym (c .before .before .before .before .before .before .before .before .before .check-key .ensures) ∙ n .1) in
+    dictionary-fault (a .profile) levels s (l .at) (l .inv .0) more (k .0 .0) (k .0 .1 .0) text (ok .0) (c .before .f .given .0 .0) (sym (c .before .before .before .value .ensures) ∙ c .before .f .given .1) ∙ l .inv .2
 
 abbrev list-Inv-loop : list-lts.InvT-loop
-list-Inv-loop s from depth profile at₀ at = listAt profile (levelsLeft depth) s at ≡ listAt profile (levelsLeft depth) s from
+list-Inv-loop s from depth profile classes at₀ at = listAt profile (levelsLeft depth) s at ≡ listAt profile (levelsLeft depth) s from
 
 abbrev list-μ-loop : list-lts.MeasureT-loop
-list-μ-loop s from depth profile at₀ at = length s - at
+list-μ-loop s from depth profile classes at₀ at = length s - at
 
 list-loop-holds : (t : ℕ) → list-lts.Need-loop-holds (list-calls t) (list-at t) list.Post list-Inv-loop list-μ-loop
 list-loop-holds t c = refl
 
-list-byte-at-requires : (t : ℕ) → list-lts.Need-byte-at-requires (list-calls t) (list-at t) list.Post list-Inv-loop list-μ-loop
-list-byte-at-requires t c κs = tt
+list-class-at-requires : (t : ℕ) → list-lts.Need-class-at-requires (list-calls t) (list-at t) list.Post list-Inv-loop list-μ-loop
+list-class-at-requires t c κs = c .before .before .pre .1 .1
 
-list-add-t10 : (t : ℕ) → list-lts.Need-add-t10 (list-calls t) (list-at t) list.Post list-Inv-loop list-μ-loop
-list-add-t10 t c =
+list-add-t12 : (t : ℕ) → list-lts.Need-add-t12 (list-calls t) (list-at t) list.Post list-Inv-loop list-μ-loop
+list-add-t12 t c =
     let a = c .before .before .before .before .args in
     let s = a .s .now in
+    let levels = levelsLeft (a .depth) in
     let l = c .before .before .loop in
-    omega (arith, inside s (l .at) (omega (arith, c .before .byte-at .ensures)))
+    let e = class-is 101 refl (byteAt s (l .at)) (sym (c .before .class-at .ensures) ∙ c .if1 .taken) in
+    omega (arith, inside s (l .at) (omega (arith, e)))
 
 list-returns : (t : ℕ) → list-lts.Need-returns (list-calls t) (list-at t) list.Post list-Inv-loop list-μ-loop
 list-returns t c =
     let a = c .before .before .before .before .args in
     let s = a .s .now in
+    let levels = levelsLeft (a .depth) in
     let l = c .before .before .loop in
-    list-end (a .profile) (levelsLeft (a .depth)) s (l .at) (omega (arith, c .before .byte-at .ensures)) ∙ l .inv
+    list-end (a .profile) levels s (l .at) (class-is 101 refl (byteAt s (l .at)) (sym (c .before .class-at .ensures) ∙ c .if1 .taken)) ∙ l .inv
+
+list-after-scalar-requires : (t : ℕ) → list-lts.Need-after-scalar-requires (list-calls t) (list-at t) list.Post list-Inv-loop list-μ-loop
+list-after-scalar-requires t c κs = tt
+
+list-loop-less : (t : ℕ) → list-lts.Need-loop-less (list-calls t) (list-at t) list.Post list-Inv-loop list-μ-loop
+list-loop-less t c =
+    let a = c .before .before .before .before .before .before .args in
+    let s = a .s .now in
+    let levels = levelsLeft (a .depth) in
+    let l = c .before .before .before .before .loop in
+    let v = scalar-value (a .profile) levels s (l .at) (c .before .after-scalar .result) (after-end (scalarAt s (l .at)) (c .before .after-scalar .result) (c .before .after-scalar .ensures) (c .if2 .taken)) in
+    omega (arith, value-ends (a .profile) levels s (l .at) (c .before .after-scalar .result) v)
+
+list-loop-again : (t : ℕ) → list-lts.Need-loop-again (list-calls t) (list-at t) list.Post list-Inv-loop list-μ-loop
+list-loop-again t c =
+    let a = c .before .before .before .before .before .before .args in
+    let s = a .s .now in
+    let levels = levelsLeft (a .depth) in
+    let l = c .before .before .before .before .loop in
+    let more = class-is-not 101 refl (byteAt s (l .at)) (λ e. c .before .before .if1 .left (c .before .before .before .class-at .ensures ∙ e)) in
+    let v = scalar-value (a .profile) levels s (l .at) (c .before .after-scalar .result) (after-end (scalarAt s (l .at)) (c .before .after-scalar .result) (c .before .after-scalar .ensures) (c .if2 .taken)) in
+    list-more (a .profile) levels s (l .at) more (c .before .after-scalar .result) v ∙ l .inv
 
 list-value-requires : (t : ℕ) → list-lts.Need-value-requires (list-calls t) (list-at t) list.Post list-Inv-loop list-μ-loop
-list-value-requires t c κs = (omega (arith, c .before .before .before .before .pre .0), c .before .before .before .before .pre .1)
+list-value-requires t c κs = (omega (arith, c .before .before .before .before .before .before .pre .0), c .before .before .before .before .before .before .pre .1)
 
 list-enum-known-end : (t : ℕ) → list-lts.Need-enum-known-end (list-calls t) (list-at t) list.Post list-Inv-loop list-μ-loop
 list-enum-known-end t c = search needs
 
-list-loop-less : (t : ℕ) → list-lts.Need-loop-less (list-calls t) (list-at t) list.Post list-Inv-loop list-μ-loop
-list-loop-less t c =
-    let a = c .before .before .before .before .before .before .before .before .args in
+list-loop-less-2 : (t : ℕ) → list-lts.Need-loop-less-2 (list-calls t) (list-at t) list.Post list-Inv-loop list-μ-loop
+list-loop-less-2 t c =
+    let a = c .before .before .before .before .before .before .before .before .before .before .args in
     let s = a .s .now in
-    let l = c .before .before .before .before .before .before .loop in
-    omega (arith, value-ends (a .profile) (levelsLeft (a .depth)) s (l .at) (c .before .end .given .0 .0) (sym (c .before .before .before .value .ensures) ∙ c .before .end .given .1))
+    let levels = levelsLeft (a .depth) in
+    let l = c .before .before .before .before .before .before .before .before .loop in
+    omega (arith, value-ends (a .profile) levels s (l .at) (c .before .end .given .0 .0) (sym (c .before .before .before .value .ensures) ∙ c .before .end .given .1))
 
-list-loop-again : (t : ℕ) → list-lts.Need-loop-again (list-calls t) (list-at t) list.Post list-Inv-loop list-μ-loop
-list-loop-again t c =
-    let a = c .before .before .before .before .before .before .before .before .args in
+list-loop-again-2 : (t : ℕ) → list-lts.Need-loop-again-2 (list-calls t) (list-at t) list.Post list-Inv-loop list-μ-loop
+list-loop-again-2 t c =
+    let a = c .before .before .before .before .before .before .before .before .before .before .args in
     let s = a .s .now in
-    let l = c .before .before .before .before .before .before .loop in
-    list-more (a .profile) (levelsLeft (a .depth)) s (l .at) (λ e. c .before .before .before .before .if1 .left (c .before .before .before .before .before .byte-at .ensures ∙ e)) (c .before .end .given .0 .0) (sym (c .before .before .before .value .ensures) ∙ c .before .end .given .1) ∙ l .inv
+    let levels = levelsLeft (a .depth) in
+    let l = c .before .before .before .before .before .before .before .before .loop in
+    let more = class-is-not 101 refl (byteAt s (l .at)) (λ e. c .before .before .before .before .before .before .if1 .left (c .before .before .before .before .before .before .before .class-at .ensures ∙ e)) in
+    list-more (a .profile) levels s (l .at) more (c .before .end .given .0 .0) (sym (c .before .before .before .value .ensures) ∙ c .before .end .given .1) ∙ l .inv
 
 list-enum-known-f : (t : ℕ) → list-lts.Need-enum-known-f (list-calls t) (list-at t) list.Post list-Inv-loop list-μ-loop
 list-enum-known-f t c = search needs
 
 list-returns-2 : (t : ℕ) → list-lts.Need-returns-2 (list-calls t) (list-at t) list.Post list-Inv-loop list-μ-loop
 list-returns-2 t c =
-    let a = c .before .before .before .before .before .before .before .before .args in
+    let a = c .before .before .before .before .before .before .before .before .before .before .args in
     let s = a .s .now in
-    let l = c .before .before .before .before .before .before .loop in
-    list-fault (a .profile) (levelsLeft (a .depth)) s (l .at) (λ e. c .before .before .before .before .if1 .left (c .before .before .before .before .before .byte-at .ensures ∙ e)) (c .before .f .given .0 .0) (sym (c .before .before .before .value .ensures) ∙ c .before .f .given .1) ∙ l .inv
+    let levels = levelsLeft (a .depth) in
+    let l = c .before .before .before .before .before .before .before .before .loop in
+    let more = class-is-not 101 refl (byteAt s (l .at)) (λ e. c .before .before .before .before .before .before .if1 .left (c .before .before .before .before .before .before .before .class-at .ensures ∙ e)) in
+    list-fault (a .profile) levels s (l .at) more (c .before .f .given .0 .0) (sym (c .before .before .before .value .ensures) ∙ c .before .f .given .1) ∙ l .inv
 
-value-byte-at-requires : (t : ℕ) → value-lts.Need-byte-at-requires (value-calls t) (value-at t) value.Post
-value-byte-at-requires t c κs = tt
+value-class-at-requires : (t : ℕ) → value-lts.Need-class-at-requires (value-calls t) (value-at t) value.Post
+value-class-at-requires t c κs = c .before .pre .1 .1
 
 value-nested-requires : (t : ℕ) → value-lts.Need-nested-requires (value-calls t) (value-at t) value.Post
 value-nested-requires t c κs = tt
@@ -261,12 +350,14 @@ value-add-list : (t : ℕ) → value-lts.Need-add-list (value-calls t) (value-at
 value-add-list t c =
     let a = c .before .before .before .before .before .before .before .args in
     let s = a .s .now in
-    omega (arith, inside s (a .at) (omega (arith, c .before .before .before .before .before .byte-at .ensures)))
+    let levels = levelsLeft (a .depth) in
+    let e = class-is 108 refl (byteAt s (a .at)) (sym (c .before .before .before .before .before .class-at .ensures) ∙ c .before .before .before .before .if1 .taken) in
+    omega (arith, inside s (a .at) (omega (arith, e)))
 
 value-list-requires : (t : ℕ) → value-lts.Need-list-requires (value-calls t) (value-at t) value.Post
 value-list-requires t c κs =
     let d = deeper-left (c .before .before .before .before .before .before .before .args .depth) (c .before .inner .given .0 .0) (sym (c .before .before .before .nested .ensures) ∙ c .before .inner .given .1) in
-    (omega (arith, c .before .before .before .before .before .before .before .pre .0), d .1)
+    (omega (arith, c .before .before .before .before .before .before .before .pre .0), (d .1, c .before .before .before .before .before .before .before .pre .1 .1))
 
 value-enum-told : (t : ℕ) → value-lts.Need-enum-told (value-calls t) (value-at t) value.Post
 value-enum-told t c = search needs
@@ -275,14 +366,16 @@ value-returns : (t : ℕ) → value-lts.Need-returns (value-calls t) (value-at t
 value-returns t c =
     let a = c .before .before .before .before .before .before .before .before .args in
     let s = a .s .now in
+    let levels = levelsLeft (a .depth) in
     let d = deeper-left (a .depth) (c .before .before .inner .given .0 .0) (sym (c .before .before .before .before .nested .ensures) ∙ c .before .before .inner .given .1) in
-    c .list .ensures ∙ value-list (a .profile) (levelsLeft (a .depth)) (levelsLeft (c .before .before .inner .given .0 .0)) s (a .at) (d .0) (sym (c .before .before .before .before .before .before .byte-at .ensures) ∙ c .before .before .before .before .before .if1 .taken)
+    c .list .ensures ∙ value-list (a .profile) levels (levelsLeft (c .before .before .inner .given .0 .0)) s (a .at) (d .0) (class-is 108 refl (byteAt s (a .at)) (sym (c .before .before .before .before .before .before .class-at .ensures) ∙ c .before .before .before .before .before .if1 .taken))
 
 value-returns-2 : (t : ℕ) → value-lts.Need-returns-2 (value-calls t) (value-at t) value.Post
 value-returns-2 t c =
     let a = c .before .before .before .before .before .before .args in
     let s = a .s .now in
-    value-deep-list (a .profile) (levelsLeft (a .depth)) s (a .at) (too-deep-left (a .depth) (sym (c .before .before .nested .ensures) ∙ c .enum-told .given .1)) (sym (c .before .before .before .before .byte-at .ensures) ∙ c .before .before .before .if1 .taken)
+    let levels = levelsLeft (a .depth) in
+    value-deep-list (a .profile) levels s (a .at) (too-deep-left (a .depth) (sym (c .before .before .nested .ensures) ∙ c .enum-told .given .1)) (class-is 108 refl (byteAt s (a .at)) (sym (c .before .before .before .before .class-at .ensures) ∙ c .before .before .before .if1 .taken))
 
 value-nested-requires-2 : (t : ℕ) → value-lts.Need-nested-requires-2 (value-calls t) (value-at t) value.Post
 value-nested-requires-2 t c κs = tt
@@ -294,12 +387,14 @@ value-add-dictionary : (t : ℕ) → value-lts.Need-add-dictionary (value-calls 
 value-add-dictionary t c =
     let a = c .before .before .before .before .before .before .before .before .args in
     let s = a .s .now in
-    omega (arith, inside s (a .at) (omega (arith, c .before .before .before .before .before .before .byte-at .ensures)))
+    let levels = levelsLeft (a .depth) in
+    let e = class-is 100 refl (byteAt s (a .at)) (sym (c .before .before .before .before .before .before .class-at .ensures) ∙ c .before .before .before .before .if2 .taken) in
+    omega (arith, inside s (a .at) (omega (arith, e)))
 
 value-dictionary-requires : (t : ℕ) → value-lts.Need-dictionary-requires (value-calls t) (value-at t) value.Post
 value-dictionary-requires t c κs =
     let d = deeper-left (c .before .before .before .before .before .before .before .before .args .depth) (c .before .inner2 .given .0 .0) (sym (c .before .before .before .nested2 .ensures) ∙ c .before .inner2 .given .1) in
-    (omega (arith, c .before .before .before .before .before .before .before .before .pre .0), d .1)
+    (omega (arith, c .before .before .before .before .before .before .before .before .pre .0), (d .1, c .before .before .before .before .before .before .before .before .pre .1 .1))
 
 value-enum-told-2 : (t : ℕ) → value-lts.Need-enum-told-2 (value-calls t) (value-at t) value.Post
 value-enum-told-2 t c = search needs
@@ -308,14 +403,16 @@ value-returns-3 : (t : ℕ) → value-lts.Need-returns-3 (value-calls t) (value-
 value-returns-3 t c =
     let a = c .before .before .before .before .before .before .before .before .before .args in
     let s = a .s .now in
+    let levels = levelsLeft (a .depth) in
     let d = deeper-left (a .depth) (c .before .before .inner2 .given .0 .0) (sym (c .before .before .before .before .nested2 .ensures) ∙ c .before .before .inner2 .given .1) in
-    c .dictionary .ensures ∙ value-dictionary (a .profile) (levelsLeft (a .depth)) (levelsLeft (c .before .before .inner2 .given .0 .0)) s (a .at) (d .0) (sym (c .before .before .before .before .before .before .before .byte-at .ensures) ∙ c .before .before .before .before .before .if2 .taken)
+    c .dictionary .ensures ∙ value-dictionary (a .profile) levels (levelsLeft (c .before .before .inner2 .given .0 .0)) s (a .at) (d .0) (class-is 100 refl (byteAt s (a .at)) (sym (c .before .before .before .before .before .before .before .class-at .ensures) ∙ c .before .before .before .before .before .if2 .taken))
 
 value-returns-4 : (t : ℕ) → value-lts.Need-returns-4 (value-calls t) (value-at t) value.Post
 value-returns-4 t c =
     let a = c .before .before .before .before .before .before .before .args in
     let s = a .s .now in
-    value-deep-dictionary (a .profile) (levelsLeft (a .depth)) s (a .at) (too-deep-left (a .depth) (sym (c .before .before .nested2 .ensures) ∙ c .enum-told2 .given .1)) (sym (c .before .before .before .before .before .byte-at .ensures) ∙ c .before .before .before .if2 .taken)
+    let levels = levelsLeft (a .depth) in
+    value-deep-dictionary (a .profile) levels s (a .at) (too-deep-left (a .depth) (sym (c .before .before .nested2 .ensures) ∙ c .enum-told2 .given .1)) (class-is 100 refl (byteAt s (a .at)) (sym (c .before .before .before .before .before .class-at .ensures) ∙ c .before .before .before .if2 .taken))
 
 value-scalar-end-requires : (t : ℕ) → value-lts.Need-scalar-end-requires (value-calls t) (value-at t) value.Post
 value-scalar-end-requires t c κs = tt
@@ -324,31 +421,44 @@ value-returns-5 : (t : ℕ) → value-lts.Need-returns-5 (value-calls t) (value-
 value-returns-5 t c =
     let a = c .before .before .before .before .before .args in
     let s = a .s .now in
-    c .scalar-end .ensures ∙ value-scalar (a .profile) (levelsLeft (a .depth)) s (a .at) (λ e. c .before .before .if1 .left (c .before .before .before .byte-at .ensures ∙ e)) (λ e. c .before .if2 .left (c .before .before .before .byte-at .ensures ∙ e))
+    let levels = levelsLeft (a .depth) in
+    let b = byteAt s (a .at) in
+    c .scalar-end .ensures ∙ value-scalar (a .profile) levels s (a .at) (class-is-not 108 refl b (λ e. c .before .before .if1 .left (c .before .before .before .class-at .ensures ∙ e))) (class-is-not 100 refl b (λ e. c .before .if2 .left (c .before .before .before .class-at .ensures ∙ e)))
 
 pub +dictionary+list+value-spec : {M : Type 1} → statement M
-+dictionary+list+value-spec = close μ-dictionary μ-list μ-value (λ t. dictionary-lts.spec (dictionary-calls t)
++dictionary+list+value-spec =
+    close
+    μ-dictionary
+    μ-list
+    μ-value
+    (λ t. dictionary-lts.spec
+    (dictionary-calls t)
     (dictionary-at t)
     dictionary.Post
     dictionary-Inv-loop
     dictionary-μ-loop
+    (dictionary-none-requires t)
     (dictionary-loop-holds t)
-    (dictionary-byte-at-requires t)
-    (dictionary-add-t16 t)
+    (dictionary-class-at-requires t)
+    (dictionary-add-t17 t)
     (dictionary-returns t)
     (dictionary-string-requires t)
-    (dictionary-enum-known-f t)
-    (dictionary-returns-2 t)
     (dictionary-enum-known-start t)
+    (dictionary-enum-told t)
+    (dictionary-string-end-requires t)
+    (dictionary-returns-2 t)
     (dictionary-check-key-requires t)
     (dictionary-enum-known-code t)
     (dictionary-returns-3 t)
     (dictionary-enum-known-next t)
-    (dictionary-value-requires t)
-    (dictionary-enum-known-after t)
+    (dictionary-after-scalar-requires t)
     (dictionary-loop-less t)
     (dictionary-loop-again t)
-    (dictionary-enum-known-f-2 t)
+    (dictionary-value-requires t)
+    (dictionary-enum-known-to t)
+    (dictionary-loop-less-2 t)
+    (dictionary-loop-again-2 t)
+    (dictionary-enum-known-f t)
     (dictionary-returns-4 t))
     (λ t. list-lts.spec
     (list-calls t)
@@ -357,19 +467,23 @@ pub +dictionary+list+value-spec : {M : Type 1} → statement M
     list-Inv-loop
     list-μ-loop
     (list-loop-holds t)
-    (list-byte-at-requires t)
-    (list-add-t10 t)
+    (list-class-at-requires t)
+    (list-add-t12 t)
     (list-returns t)
-    (list-value-requires t)
-    (list-enum-known-end t)
+    (list-after-scalar-requires t)
     (list-loop-less t)
     (list-loop-again t)
+    (list-value-requires t)
+    (list-enum-known-end t)
+    (list-loop-less-2 t)
+    (list-loop-again-2 t)
     (list-enum-known-f t)
     (list-returns-2 t))
-    λ t. value-lts.spec (value-calls t)
+    (λ t. value-lts.spec
+    (value-calls t)
     (value-at t)
     value.Post
-    (value-byte-at-requires t)
+    (value-class-at-requires t)
     (value-nested-requires t)
     (value-enum-known-inner t)
     (value-add-list t)
@@ -385,4 +499,4 @@ pub +dictionary+list+value-spec : {M : Type 1} → statement M
     (value-returns-3 t)
     (value-returns-4 t)
     (value-scalar-end-requires t)
-    (value-returns-5 t)
+    (value-returns-5 t))

@@ -1,0 +1,41 @@
+// The classes of bytes: one table, through which the walk looks at the bytes that values start and end with.
+ghost use mathlib.Core.Path.{_≡_};
+ghost use mathlib.Core.Bool.{true};
+ghost use Rattle.octets.specs.Bytes.{byteAt};
+ghost use Rattle.bencode.specs.Classes.{classOf, isTable};
+use octets::byte_at;
+
+// The class of each byte, sixteen to a line: a digit is `0`, each of `-:deil` is itself, and any other byte is `.`.
+const CLASSES: [u8; 256] = *b"\
+    ................\
+    ................\
+    .............-..\
+    0000000000:.....\
+    ................\
+    ................\
+    ....de...i..l...\
+    ................\
+    ................\
+    ................\
+    ................\
+    ................\
+    ................\
+    ................\
+    ................\
+    ................";
+
+// The table. A walk makes it once and lends it on, since each use of the constant copies it whole.
+pub fn classes() -> [u8; 256]
+    ensures { λ r. ⌜ isTable r ≡ true ⌝ }
+{
+    CLASSES
+}
+
+// The class of the byte at an offset.
+pub fn class_at(classes: &[u8; 256], s: &[u8], at: usize) -> u8
+    requires { ⌜ isTable (now classes) ≡ true ⌝ }
+    ensures { λ r. ⌜ r ≡ classOf (byteAt (now (s .entry)) at) ⌝ }
+{
+    let b = byte_at(s, at) as usize;
+    classes[b]
+}
