@@ -17,3 +17,13 @@ levelsLeft depth = largestDepth - depth .0
 -- the depth inside one more list or dictionary
 abbrev pub nested : Depth → Deeper
 nested depth = cond (leb largestDepth (depth .0)) Deeper.TooDeep (Deeper.Depth (record { 0 = depth .0 + 1 }))
+
+-- how many are left in the list that is a payload, in a list that is a value of it, and in a dictionary that is a value of that
+abbrev pub listLevels : ℕ
+listLevels = largestDepth - 1
+
+abbrev pub sublistLevels : ℕ
+sublistLevels = largestDepth - 2
+
+abbrev pub recordLevels : ℕ
+recordLevels = largestDepth - 3

@@ -22,6 +22,27 @@ impl Depth {
         Depth(0)
     }
 
+    // The depth in the list that is a payload.
+    pub fn in_list() -> Depth
+        ensures { λ r. ⌜ r .0 ≡ 1 ⌝ }
+    {
+        Depth(1)
+    }
+
+    // The depth in a list that is a value of that.
+    pub fn in_sublist() -> Depth
+        ensures { λ r. ⌜ r .0 ≡ 2 ⌝ }
+    {
+        Depth(2)
+    }
+
+    // The depth in a dictionary that is a value of that.
+    pub fn in_record() -> Depth
+        ensures { λ r. ⌜ r .0 ≡ 3 ⌝ }
+    {
+        Depth(3)
+    }
+
     // The depth inside one list or dictionary more.
     pub fn nested(self) -> Deeper
         ensures { λ r. ⌜ r ≡ nested self ⌝ }
