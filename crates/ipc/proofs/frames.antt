@@ -3,3 +3,4 @@ pub mod HandshakeLaws
 pub mod MessageLaws
 pub mod ReaderLaws
 pub mod NumberLaws
+pub mod OnePassLaws

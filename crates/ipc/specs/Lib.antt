@@ -4,7 +4,9 @@ pub mod Keys
 pub mod Answer
 pub mod Numbers
 pub mod Format
+pub mod Lists
 pub mod Message
+pub mod OnePass
 pub mod Versions
 pub mod Handshake
 pub mod Reader

@@ -97,7 +97,7 @@ fn text_value(p: &[u8], at: usize) -> Checked
 }
 
 // The bytes from an offset of the payload up to another.
-fn part_value(at: usize, end: usize) -> Value
+pub fn part_value(at: usize, end: usize) -> Value
     requires { ⌜ (at ≤ end) × (end ≤ largestPayload) ⌝ }
     ensures { λ r. ⌜ r ≡ partValue at end ⌝ }
 {

@@ -9,6 +9,7 @@ mod hex;
 mod ids;
 mod keys;
 mod lengths;
+mod lists;
 mod message;
 mod numbers;
 mod reader;

@@ -1,24 +1,47 @@
-// Messages: a list of a key, a value and, if it has one, a tag.
+// Messages: a list of a key, a value and, if it has one, a tag. A message is read in one pass.
 ghost use mathlib.Core.Path.{_≡_};
+ghost use mathlib.Core.Bool.{true};
 ghost use Prim.Native.Nat.{_≤_};
 ghost use lib.ListN.{length};
+ghost use Rattle.octets.specs.Bytes.{byteAt};
+ghost use Rattle.bencode.specs.declared.fault.Walk.{Walk};
+ghost use Rattle.bencode.specs.declared.profile.Profile.{Profile};
+ghost use Rattle.bencode.specs.Depth.{listLevels};
+ghost use Rattle.bencode.specs.Letters.{letterL};
+ghost use Rattle.bencode.specs.Walk.{valueAt};
+ghost use Rattle.ipc.specs.declared.reading.Reading.{Reading};
+ghost use Rattle.ipc.specs.Format.{formatted};
 ghost use Rattle.ipc.specs.Header.{largestPayload};
-ghost use Rattle.ipc.specs.Message.{tailAt, valued, fromTag, messageReading};
+ghost use Rattle.ipc.specs.Keys.{classOf};
+ghost use Rattle.ipc.specs.Message.{tailAt, valued, messageReading};
+ghost use Rattle.ipc.specs.OnePass.{walkedOnly, listValue, InFormat, Valuing, keyedReading};
+ghost use Rattle.ipc.specs.Reader.{payloadReading};
 use super::format::Checked;
 use super::format::check_value;
+use super::format::part_value;
 use super::header::HEADER_LENGTH;
 use super::ids::OptionalTag;
 use super::ids::Tag;
+use super::keys::Class;
 use super::keys::class_of;
 use super::keys::key_number;
+use super::lists::ListCheck;
+use super::lists::id_list;
+use super::lists::text_list;
+use super::lists::torrent_list;
 use super::reading::Message;
 use super::reading::Reading;
-use bencode::Item;
+use bencode::Fault;
 use bencode::Number;
+use bencode::Profile;
 use bencode::Text;
+use bencode::Walk;
 use bencode::integer;
-use bencode::item_at;
+use bencode::list_rest;
+use bencode::list_value;
+use bencode::payload;
 use bencode::string;
+use bencode::sublist_rest;
 use octets::byte_at;
 
 // What stands after a message's value: a tag or none, and then the list's end; or something else.
@@ -62,27 +85,114 @@ fn answer(p: &[u8], key: u8, tag: OptionalTag, checked: Checked) -> Reading
     }
 }
 
-// The answer for the key with a number and the value from an offset up to another.
-fn keyed(p: &[u8], key: u8, at: usize, end: usize) -> Reading
-    requires { ⌜ (at ≤ end) × (end ≤ length (now p)) × (length (now p) ≤ largestPayload) ⌝ }
-    ensures { λ r. ⌜ r ≡ fromTag (now (p .entry)) key at end (tailAt (now (p .entry)) end) ⌝ }
+// What is found of a message's value: it ends at an offset and is a list in its format; it ends there and is not yet held to its
+// format; or its first fault.
+pub enum ValueCheck {
+    Fits(usize),
+    Other(usize),
+    Fault(Fault),
+}
+
+// The value at an offset, walked only.
+fn walked(p: &[u8], at: usize) -> ValueCheck
+    ensures { λ r. ⌜ r ≡ walkedOnly (valueAt Profile.Loose listLevels (now (p .entry)) at) ⌝ }
 {
-    match tag_at(p, end) {
-        Tail::Tag(tag) => answer(p, key, tag, check_value(p, class_of(key), at, end)),
-        Tail::Other => Reading::NoMessage,
+    match list_value(p, at, Profile::Loose) {
+        Walk::End(end) => ValueCheck::Other(end),
+        Walk::Fault(f) => ValueCheck::Fault(f),
     }
 }
 
-// The answer for a payload that is a list.
+// The value that is a list: where an item is off its format, the rest is walked only.
+fn listed(p: &[u8], checked: ListCheck) -> ValueCheck
+    ensures { λ r. ⌜ r ≡ listValue (now (p .entry)) checked ⌝ }
+{
+    match checked {
+        ListCheck::Fits(end) => ValueCheck::Fits(end),
+        ListCheck::Off(at) => match sublist_rest(p, at, Profile::Loose) {
+            Walk::End(end) => ValueCheck::Other(end),
+            Walk::Fault(f) => ValueCheck::Fault(f),
+        },
+        ListCheck::Fault(f) => ValueCheck::Fault(f),
+    }
+}
+
+// The value at an offset. A list in its format is held to it while it is walked.
+fn value_of(p: &[u8], class: Class, at: usize) -> ValueCheck
+    ensures { λ r. ⌜ Valuing class (now (p .entry)) at r ⌝ }
+{
+    if byte_at(p, at) != b'l' {
+        return walked(p, at);
+    }
+    match class {
+        Class::TextList => listed(p, text_list(p, at + 1)),
+        Class::IdList => listed(p, id_list(p, at + 1)),
+        Class::TorrentList => listed(p, torrent_list(p, at + 1)),
+        _ => walked(p, at),
+    }
+}
+
+// The answer for the key with a number, a tag or none, and the value from an offset up to another: is it known to be in its
+// format.
+fn ended(p: &[u8], key: u8, tag: OptionalTag, at: usize, end: usize, fits: bool) -> Reading
+    requires { ⌜ (at ≤ end) × (end ≤ length (now p)) × (length (now p) ≤ largestPayload) × (fits ≡ true → InFormat (classOf key) (now p) at end) ⌝ }
+    ensures { λ r. ⌜ r ≡ valued (now (p .entry)) key tag (formatted (classOf key) (now (p .entry)) at end) ⌝ }
+{
+    if fits {
+        return Reading::Message {
+            message: Message {
+                key,
+                tag,
+                value: part_value(at, end),
+            },
+            consumed: HEADER_LENGTH + p.len(),
+        };
+    }
+    answer(p, key, tag, check_value(p, class_of(key), at, end))
+}
+
+// The answer for the key with a number and the value from an offset up to another, which has been walked: the rest is walked.
+fn rest(p: &[u8], key: u8, at: usize, end: usize, fits: bool) -> Reading
+    requires { ⌜ (valueAt Profile.Loose listLevels (now p) at ≡ Walk.End end) × (length (now p) ≤ largestPayload) × (fits ≡ true → InFormat (classOf key) (now p) at end) ⌝ }
+    ensures { λ r. ⌜ r ≡ keyedReading (now (p .entry)) key at ⌝ }
+{
+    match list_rest(p, end, Profile::Loose) {
+        Walk::Fault(f) => Reading::Payload(f),
+        Walk::End(_) => match tag_at(p, end) {
+            Tail::Tag(tag) => ended(p, key, tag, at, end, fits),
+            Tail::Other => Reading::NoMessage,
+        },
+    }
+}
+
+// The answer for a list that has no key or no value.
+fn unkeyed(p: &[u8]) -> Reading
+    requires { ⌜ (byteAt (now p) 0 ≡ letterL) × (messageReading (now p) ≡ Reading.NoMessage) ⌝ }
+    ensures { λ r. ⌜ r ≡ payloadReading (now (p .entry)) ⌝ }
+{
+    match payload(p, Profile::Loose) {
+        Walk::End(_) => Reading::NoMessage,
+        Walk::Fault(f) => Reading::Payload(f),
+    }
+}
+
+// The answer for a payload that opens as a list.
 pub fn message(p: &[u8]) -> Reading
-    requires { ⌜ length (now p) ≤ largestPayload ⌝ }
-    ensures { λ r. ⌜ r ≡ messageReading (now (p .entry)) ⌝ }
+    requires { ⌜ (byteAt (now p) 0 ≡ letterL) × (length (now p) ≤ largestPayload) ⌝ }
+    ensures { λ r. ⌜ r ≡ payloadReading (now (p .entry)) ⌝ }
 {
     match string(p, 1) {
-        Text::Bytes { start, end } => match item_at(p, end) {
-            Item::Value(e) => keyed(p, key_number(&p[start..end]), end, e),
-            Item::End => Reading::NoMessage,
-        },
-        Text::Fault(_) => Reading::NoMessage,
+        Text::Bytes { start, end } => {
+            if byte_at(p, end) == b'e' {
+                return unkeyed(p);
+            }
+            let key = key_number(&p[start..end]);
+            match value_of(p, class_of(key), end) {
+                ValueCheck::Fits(e) => rest(p, key, end, e, true),
+                ValueCheck::Other(e) => rest(p, key, end, e, false),
+                ValueCheck::Fault(f) => Reading::Payload(f),
+            }
+        }
+        Text::Fault(_) => unkeyed(p),
     }
 }

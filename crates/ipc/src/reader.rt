@@ -23,15 +23,15 @@ fn read_payload(p: &[u8]) -> Reading
     requires { ⌜ length (now p) ≤ largestPayload ⌝ }
     ensures { λ r. ⌜ r ≡ payloadReading (now (p .entry)) ⌝ }
 {
+    let b = byte_at(p, 0);
+    if b == b'l' {
+        return message(p);
+    }
     match payload(p, Profile::Loose) {
         Walk::Fault(f) => Reading::Payload(f),
         Walk::End(_) => {
-            let b = byte_at(p, 0);
             if b == b'd' {
                 return handshake(p);
-            }
-            if b == b'l' {
-                return message(p);
             }
             Reading::NoMessage
         }

@@ -1,15 +1,25 @@
 -- `ipc::message::message` meets its contract.
 -- Assumes nothing.
-use mathlib.Core.Path.{_≡_, sym, ap, _∙_}
-use native.Mathlib.Omega.{arith}
-use borrow.Author.Needs.{needs}
 use Prim.Native.Nat.{ℕ}
+use mathlib.Core.Path.{_≡_, refl, sym, ap, subst, _∙_}
+use mathlib.Core.Bool.{false}
+use native.Mathlib.Omega.{arith}
+use Rattle.octets.proofs.sequences.Order.{clash}
+use Rattle.bencode.specs.declared.fault.Walk.{Walk}
+use Rattle.bencode.specs.declared.profile.Profile.{Profile}
 use Rattle.bencode.specs.declared.strings.Text.{Text}
+use Rattle.bencode.specs.Depth.{listLevels}
 use Rattle.bencode.specs.Strings.{stringAt}
+use Rattle.bencode.specs.Walk.{valueAt}
+use Rattle.bencode.proofs.lookup.ItemLaws.{item-last}
 use Rattle.bencode.proofs.walking.Ends.{string-whole-inv}
-use Rattle.bencode.proofs.lookup.ItemLaws.{item-past}
-use Rattle.ipc.specs.Message.{tailAt, fromTag}
-use Rattle.ipc.proofs.frames.MessageLaws.{message-no-key, message-no-value, message-keyed}
+use Rattle.ipc.specs.declared.keys.Class.{Class}
+use Rattle.ipc.specs.declared.message.ValueCheck.{ValueCheck}
+use Rattle.ipc.specs.Format.{formatted}
+use Rattle.ipc.specs.OnePass.{Valuing, keyedReading}
+use Rattle.ipc.proofs.frames.MessageLaws.{message-no-key, message-no-value}
+use Rattle.ipc.proofs.frames.OnePassLaws.{keyed-fault, keyed-listed}
+use borrow.Author.Needs.{needs}
 use Rattle.ipc.proofs.message.message.Statement.{statement}
 use Rattle.ipc.proofs.message.message.Tie as tie
 
@@ -19,70 +29,107 @@ string-requires c κs = search needs
 enum-known-start : tie.Need-enum-known-start
 enum-known-start c = search needs
 
-item-at-requires : tie.Need-item-at-requires
-item-at-requires c κs = search needs
+byte-at-requires : tie.Need-byte-at-requires
+byte-at-requires c κs = search needs
 
-enum-known-e : tie.Need-enum-known-e
-enum-known-e c = search needs
+unkeyed-requires : tie.Need-unkeyed-requires
+unkeyed-requires c κs =
+    let p = c .before .before .before .before .before .before .before .args .p .now in
+    let k = c .before .before .before .start .given in
+    let text : stringAt p 1 ≡ Text.Bytes (k .0 .0) (k .0 .1 .0) = sym (c .before .before .before .before .before .string .ensures) ∙ k .1 in
+    (c .before .before .before .before .before .before .before .pre .0, sym (message-no-value p (k .0 .0) (k .0 .1 .0) text (sym (item-last p (k .0 .1 .0) (sym (c .before .byte-at .ensures) ∙ c .if1 .taken)))))
+
+returns : tie.Need-returns
+returns c = c .unkeyed .ensures
 
 sub-key-number : tie.Need-sub-key-number
 sub-key-number c =
-    let p = c .before .before .before .before .before .before .before .before .before .args .p .now in
-    let k = c .before .before .before .before .before .start .given in
-    let text : stringAt p 1 ≡ Text.Bytes (k .0 .0) (k .0 .1 .0) = sym (c .before .before .before .before .before .before .before .string .ensures) ∙ k .1 in
+    let p = c .before .before .before .before .before .before .before .args .p .now in
+    let k = c .before .before .before .start .given in
+    let text : stringAt p 1 ≡ Text.Bytes (k .0 .0) (k .0 .1 .0) = sym (c .before .before .before .before .before .string .ensures) ∙ k .1 in
     let w = string-whole-inv p 1 (k .0 .0) (k .0 .1 .0) text in
     omega arith
 
 part-key-number-start : tie.Need-part-key-number-start
 part-key-number-start c =
-    let p = c .before .before .before .before .before .before .before .before .before .args .p .now in
-    let k = c .before .before .before .before .before .start .given in
-    let text : stringAt p 1 ≡ Text.Bytes (k .0 .0) (k .0 .1 .0) = sym (c .before .before .before .before .before .before .before .string .ensures) ∙ k .1 in
+    let p = c .before .before .before .before .before .before .before .args .p .now in
+    let k = c .before .before .before .start .given in
+    let text : stringAt p 1 ≡ Text.Bytes (k .0 .0) (k .0 .1 .0) = sym (c .before .before .before .before .before .string .ensures) ∙ k .1 in
     let w = string-whole-inv p 1 (k .0 .0) (k .0 .1 .0) text in
     omega arith
 
 part-key-number-end : tie.Need-part-key-number-end
 part-key-number-end c =
-    let p = c .before .before .before .before .before .before .before .before .before .args .p .now in
-    let k = c .before .before .before .before .before .start .given in
-    let text : stringAt p 1 ≡ Text.Bytes (k .0 .0) (k .0 .1 .0) = sym (c .before .before .before .before .before .before .before .string .ensures) ∙ k .1 in
+    let p = c .before .before .before .before .before .before .before .args .p .now in
+    let k = c .before .before .before .start .given in
+    let text : stringAt p 1 ≡ Text.Bytes (k .0 .0) (k .0 .1 .0) = sym (c .before .before .before .before .before .string .ensures) ∙ k .1 in
     let w = string-whole-inv p 1 (k .0 .0) (k .0 .1 .0) text in
     omega arith
 
 key-number-requires : tie.Need-key-number-requires
 key-number-requires c κs = search needs
 
-keyed-requires : tie.Need-keyed-requires
-keyed-requires c κs =
-    let p = c .before .before .before .before .before .before .before .before .before .before .before .args .p .now in
-    let k = c .before .before .before .before .before .before .before .start .given in
-    let text : stringAt p 1 ≡ Text.Bytes (k .0 .0) (k .0 .1 .0) = sym (c .before .before .before .before .before .before .before .before .before .string .ensures) ∙ k .1 in
-    let w = string-whole-inv p 1 (k .0 .0) (k .0 .1 .0) text in
-    let v = item-past p (k .0 .1 .0) (c .before .before .before .e .given .0 .0) (w .within) (sym (c .before .before .before .before .before .item-at .ensures) ∙ c .before .before .before .e .given .1) in
-    (omega arith, omega arith, omega (arith, c .before .before .before .before .before .before .before .before .before .before .before .pre))
+class-of-requires : tie.Need-class-of-requires
+class-of-requires c κs = search needs
+
+value-of-requires : tie.Need-value-of-requires
+value-of-requires c κs = search needs
+
+enum-known-e : tie.Need-enum-known-e
+enum-known-e c = search needs
+
+rest-requires : tie.Need-rest-requires
+rest-requires c κs =
+    let p = c .before .before .before .before .before .before .before .before .before .before .before .before .before .before .args .p .now in
+    let at = c .before .before .before .before .before .before .before .before .before .before .start .given .0 .1 .0 in
+    let e = c .before .e .given .0 .0 in
+    let v : Valuing (c .before .before .before .before .class-of .result) p at (ValueCheck.Fits e) = subst (λ (r : ValueCheck). Valuing (c .before .before .before .before .class-of .result) p at r) (c .before .e .given .1) (c .before .before .before .value-of .ensures) in
+    (v .0, c .before .before .before .before .before .before .before .before .before .before .before .before .before .before .pre .1, λ t. ap (λ (k : Class). formatted k p at e) (sym (c .before .before .before .before .class-of .ensures)) ∙ v .1)
+
+enum-known-e-2 : tie.Need-enum-known-e-2
+enum-known-e-2 c = search needs
+
+rest-requires-2 : tie.Need-rest-requires-2
+rest-requires-2 c κs =
+    let p = c .before .before .before .before .before .before .before .before .before .before .before .before .before .before .args .p .now in
+    let at = c .before .before .before .before .before .before .before .before .before .before .start .given .0 .1 .0 in
+    let v : valueAt Profile.Loose listLevels p at ≡ Walk.End (c .before .e2 .given .0 .0) = subst (λ (r : ValueCheck). Valuing (c .before .before .before .before .class-of .result) p at r) (c .before .e2 .given .1) (c .before .before .before .value-of .ensures) in
+    (v, c .before .before .before .before .before .before .before .before .before .before .before .before .before .before .pre .1, λ t. clash false t refl)
+
+enum-known-f : tie.Need-enum-known-f
+enum-known-f c = search needs
 
 enum-told : tie.Need-enum-told
 enum-told c = search needs
 
-enum-told-2 : tie.Need-enum-told-2
-enum-told-2 c = search needs
-
-returns : tie.Need-returns
-returns c =
-    let p = c .before .before .before .before .before .before .before .before .before .before .before .before .args .p .now in
-    let k = c .before .before .before .before .before .before .before .before .start .given in
-    let text : stringAt p 1 ≡ Text.Bytes (k .0 .0) (k .0 .1 .0) = sym (c .before .before .before .before .before .before .before .before .before .before .string .ensures) ∙ k .1 in
-    c .keyed .ensures ∙ ap (λ (n : ℕ). fromTag p n (k .0 .1 .0) (c .before .before .before .before .e .given .0 .0) (tailAt p (c .before .before .before .before .e .given .0 .0))) (c .before .key-number .ensures) ∙ message-keyed p (k .0 .0) (k .0 .1 .0) text (c .before .before .before .before .e .given .0 .0) (sym (c .before .before .before .before .before .before .item-at .ensures) ∙ c .before .before .before .before .e .given .1)
+unkeyed-requires-2 : tie.Need-unkeyed-requires-2
+unkeyed-requires-2 c κs = (c .before .before .before .before .pre .0, sym (message-no-key (c .before .before .before .before .args .p .now) (c .enum-told .given .0 .0) (sym (c .before .before .string .ensures) ∙ c .enum-told .given .1)))
 
 returns-2 : tie.Need-returns-2
 returns-2 c =
-    let p = c .before .before .before .before .before .before .before .before .args .p .now in
-    let k = c .before .before .before .before .start .given in
-    let text : stringAt p 1 ≡ Text.Bytes (k .0 .0) (k .0 .1 .0) = sym (c .before .before .before .before .before .before .string .ensures) ∙ k .1 in
-    message-no-value p (k .0 .0) (k .0 .1 .0) text (sym (c .before .before .item-at .ensures) ∙ c .enum-told .given .1)
+    let p = c .before .before .before .before .before .before .before .before .before .before .before .before .before .before .before .args .p .now in
+    let k = c .before .before .before .before .before .before .before .before .before .before .before .start .given in
+    let text : stringAt p 1 ≡ Text.Bytes (k .0 .0) (k .0 .1 .0) = sym (c .before .before .before .before .before .before .before .before .before .before .before .before .before .string .ensures) ∙ k .1 in
+    c .rest .ensures ∙ ap (λ (n : ℕ). keyedReading p n (k .0 .1 .0)) (c .before .before .before .before .before .before .key-number .ensures) ∙ keyed-listed p (c .before .before .before .before .before .before .before .before .before .before .before .before .before .before .before .pre .0) (k .0 .0) (k .0 .1 .0) text (λ e. c .before .before .before .before .before .before .before .before .if1 .left (c .before .before .before .before .before .before .before .before .before .byte-at .ensures ∙ e))
 
 returns-3 : tie.Need-returns-3
-returns-3 c = message-no-key (c .before .before .before .before .args .p .now) (c .enum-told2 .given .0 .0) (sym (c .before .before .string .ensures) ∙ c .enum-told2 .given .1)
+returns-3 c =
+    let p = c .before .before .before .before .before .before .before .before .before .before .before .before .before .before .before .args .p .now in
+    let k = c .before .before .before .before .before .before .before .before .before .before .before .start .given in
+    let text : stringAt p 1 ≡ Text.Bytes (k .0 .0) (k .0 .1 .0) = sym (c .before .before .before .before .before .before .before .before .before .before .before .before .before .string .ensures) ∙ k .1 in
+    c .rest2 .ensures ∙ ap (λ (n : ℕ). keyedReading p n (k .0 .1 .0)) (c .before .before .before .before .before .before .key-number .ensures) ∙ keyed-listed p (c .before .before .before .before .before .before .before .before .before .before .before .before .before .before .before .pre .0) (k .0 .0) (k .0 .1 .0) text (λ e. c .before .before .before .before .before .before .before .before .if1 .left (c .before .before .before .before .before .before .before .before .before .byte-at .ensures ∙ e))
+
+returns-4 : tie.Need-returns-4
+returns-4 c =
+    let p = c .before .before .before .before .before .before .before .before .before .before .before .before .before .before .args .p .now in
+    let k = c .before .before .before .before .before .before .before .before .before .before .start .given in
+    let f = c .before .f .given .0 .0 in
+    let text : stringAt p 1 ≡ Text.Bytes (k .0 .0) (k .0 .1 .0) = sym (c .before .before .before .before .before .before .before .before .before .before .before .before .string .ensures) ∙ k .1 in
+    let v : valueAt Profile.Loose listLevels p (k .0 .1 .0) ≡ Walk.Fault f = subst (λ (r : ValueCheck). Valuing (c .before .before .before .before .class-of .result) p (k .0 .1 .0) r) (c .before .f .given .1) (c .before .before .before .value-of .ensures) in
+    keyed-fault p (c .before .before .before .before .before .key-number .result) (k .0 .1 .0) f v ∙ ap (λ (n : ℕ). keyedReading p n (k .0 .1 .0)) (c .before .before .before .before .before .key-number .ensures) ∙ keyed-listed p (c .before .before .before .before .before .before .before .before .before .before .before .before .before .before .pre .0) (k .0 .0) (k .0 .1 .0) text (λ e. c .before .before .before .before .before .before .before .if1 .left (c .before .before .before .before .before .before .before .before .byte-at .ensures ∙ e))
+
+returns-5 : tie.Need-returns-5
+returns-5 c = c .unkeyed2 .ensures
 
 pub message-spec : {M : Type 1} → statement M
 message-spec =
@@ -90,15 +137,23 @@ message-spec =
     (tie.spec
     string-requires
     enum-known-start
-    item-at-requires
-    enum-known-e
+    byte-at-requires
+    unkeyed-requires
+    returns
     sub-key-number
     part-key-number-start
     part-key-number-end
     key-number-requires
-    keyed-requires
+    class-of-requires
+    value-of-requires
+    enum-known-e
+    rest-requires
+    enum-known-e-2
+    rest-requires-2
+    enum-known-f
     enum-told
-    enum-told-2
-    returns
+    unkeyed-requires-2
     returns-2
-    returns-3)
+    returns-3
+    returns-4
+    returns-5)

@@ -1,0 +1,115 @@
+-- Laws of lists that are walked and held to their format in one pass: one for each way through the loops.
+-- Assumes nothing.
+use Prim.Native.Nat.{ℕ, _+_}
+use mathlib.Core.Path.{_≡_, refl, sym, ap, _∙_}
+use mathlib.Core.Bool.{true}
+use mathlib.Core.List.{List}
+use native.Mathlib.Omega.{arith}
+use lib.IntN.{ℤ}
+use Rattle.bencode.specs.declared.fault.Fault.{Fault}
+use Rattle.bencode.specs.declared.fault.Walk.{Walk}
+use Rattle.bencode.specs.declared.field.Field.{Field}
+use Rattle.bencode.specs.declared.integers.Number.{Number}
+use Rattle.bencode.specs.declared.profile.Profile.{Profile}
+use Rattle.bencode.specs.declared.records.Noted.{Noted}
+use Rattle.octets.specs.Ascii.{ascii}
+use Rattle.octets.specs.Bytes.{byteAt}
+use Rattle.bencode.specs.Depth.{sublistLevels, recordLevels}
+use Rattle.bencode.specs.Fault.{afterOf}
+use Rattle.bencode.specs.Field.{fieldOf}
+use Rattle.bencode.specs.Integers.{within, integerAt, afterPositive}
+use Rattle.bencode.specs.Loop.{Past}
+use Rattle.bencode.specs.Record.{notedAt}
+use Rattle.bencode.specs.Skip.{skipRest}
+use Rattle.bencode.specs.Strings.{stringAt, textEnd}
+use Rattle.bencode.specs.Walk.{valueAt, listAt, dictionaryAt}
+use Rattle.bencode.proofs.lookup.ListLaws.{after-text, after-number, integer-value, string-value}
+use Rattle.bencode.proofs.lookup.NotedLaws.{noted-found, noted-missing, noted-fault, entry-integer, entry-rest}
+use Rattle.bencode.proofs.scalars.Ranges.{machine, same}
+use Rattle.bencode.proofs.walking.Ends.{integer-fits}
+use Rattle.bencode.proofs.walking.WalkLaws.{value-ends, value-dictionary, list-end, list-fault, list-more}
+use Rattle.ipc.specs.declared.format.Items.{Items}
+use Rattle.ipc.specs.declared.format.OptionalEnd.{OptionalEnd}
+use Rattle.ipc.specs.declared.ids.OptionalId.{OptionalId}
+use Rattle.ipc.specs.declared.lists.ListCheck.{ListCheck}
+use Rattle.ipc.specs.Format.{endOfText, endById, endOfId, idEnd, torrentEnd, itemEnd, itemsEnd}
+use Rattle.ipc.specs.Ids.{largestId, torrentIdOf}
+use Rattle.ipc.specs.Lists.{hasId, isId, Listing}
+use Rattle.ipc.proofs.formats.FormatLaws.{items-last, items-more, torrent-field}
+
+-- the list from an offset on comes to the same as from another: as it is walked, and as it is held to its format
+abbrev pub Goes : Items → List ℕ → ℕ → ℕ → Type 0
+Goes items p from at = (listAt Profile.Loose sublistLevels p at ≡ listAt Profile.Loose sublistLevels p from) × (itemsEnd items p at ≡ itemsEnd items p from)
+
+-- an item that is sound and in its format
+abbrev pub Fits : Items → List ℕ → ℕ → ℕ → Type 0
+Fits items p at end = (valueAt Profile.Loose sublistLevels p at ≡ Walk.End end) × (itemEnd items p at ≡ OptionalEnd.End end)
+
+pub item-past : (p : List ℕ) (at end : ℕ) → valueAt Profile.Loose sublistLevels p at ≡ Walk.End end → Past p at end
+item-past p at end e = value-ends Profile.Loose sublistLevels p at end e
+
+-- ---- the ways of a loop, which has come from one offset to another
+module _ (items : Items) (p : List ℕ) (from at : ℕ) (goes : Goes items p from at) where
+  pub listing-end : byteAt p at ≡ 101 → Listing items p from (ListCheck.Fits (at + 1))
+  listing-end b = (sym (goes .0) ∙ sym (list-end Profile.Loose sublistLevels p at b), sym (goes .1) ∙ sym (items-last items p at b))
+
+  module _ (b : byteAt p at ≡ 101 → ⊥) where
+    pub listing-on : (end : ℕ) → Fits items p at end → Goes items p from end
+    listing-on end f = (list-more Profile.Loose sublistLevels p at b end (f .0) ∙ goes .0, items-more items p at b end (f .1) ∙ goes .1)
+
+    pub listing-off : (end : ℕ) → valueAt Profile.Loose sublistLevels p at ≡ Walk.End end → Listing items p from (ListCheck.Off end)
+    listing-off end v = list-more Profile.Loose sublistLevels p at b end v ∙ goes .0
+
+    pub listing-fault : (f : Fault) → valueAt Profile.Loose sublistLevels p at ≡ Walk.Fault f → Listing items p from (ListCheck.Fault f)
+    listing-fault f v = sym (goes .0) ∙ sym (list-fault Profile.Loose sublistLevels p at b f v)
+
+-- ---- strings and torrent IDs, by the offset after them
+-- a number in the range is a torrent ID
+id-end : (z : ℤ) (end : ℕ) → within 1 largestId z ≡ true → endById end (torrentIdOf z) ≡ OptionalEnd.End end
+unfolding torrentIdOf
+id-end z end w = rw w refl
+
+module _ (p : List ℕ) (at r : ℕ) (some : r ≡ 0 → ⊥) where
+  pub text-fits : r ≡ afterOf (textEnd (stringAt p at)) → Fits Items.Texts p at r
+  unfolding itemEnd
+  text-fits e = let t = after-text p at r some e in (string-value Profile.Loose sublistLevels p at (t .0) r (t .1), ap endOfText (t .1))
+
+  pub id-fits : r ≡ afterPositive largestId (integerAt p at) → Fits Items.Ids p at r
+  unfolding itemEnd idEnd
+  id-fits e = let n = after-number p at r some largestId e in (integer-value Profile.Loose sublistLevels p at (n .0) r (n .1), ap endOfId (n .1) ∙ id-end (n .0) r (n .2))
+
+-- ---- torrents
+-- whether a number is a torrent ID, as the machine has it
+pub id-number : (p : List ℕ) (at : ℕ) (z : ℤ) (end : ℕ) → integerAt p at ≡ Number.Integer z end → (i : OptionalId) → i ≡ torrentIdOf (machine z) → hasId i ≡ isId (integerAt p at)
+id-number p at z end e i q = rw (q, same z (integer-fits p at z end e), e) refl
+
+module _ (p : List ℕ) (at : ℕ) (b : byteAt p at ≡ 100) where
+  record-value : (w : Walk) → dictionaryAt Profile.Loose recordLevels p (at + 1) ≡ w → valueAt Profile.Loose sublistLevels p at ≡ w
+  record-value w e = sym (value-dictionary Profile.Loose sublistLevels recordLevels p at refl b) ∙ e
+
+  pub torrent-fault : (f : Fault) → notedAt Profile.Loose p (ascii "id") (at + 1) ≡ Noted.Fault f → valueAt Profile.Loose sublistLevels p at ≡ Walk.Fault f
+  torrent-fault f e = record-value (Walk.Fault f) (noted-fault Profile.Loose p (ascii "id") (at + 1) f e)
+
+  pub torrent-missing : (end : ℕ) → notedAt Profile.Loose p (ascii "id") (at + 1) ≡ Noted.Missing end → valueAt Profile.Loose sublistLevels p at ≡ Walk.End end
+  torrent-missing end e = record-value (Walk.End end) (noted-missing Profile.Loose p (ascii "id") (at + 1) end e)
+
+  module _ (end v : ℕ) (e : notedAt Profile.Loose p (ascii "id") (at + 1) ≡ Noted.Found end v) where
+    pub torrent-found : valueAt Profile.Loose sublistLevels p at ≡ Walk.End end
+    torrent-found = record-value (Walk.End end) (noted-found Profile.Loose p (ascii "id") (at + 1) end v e .0)
+
+    -- a dictionary whose `id` is a torrent ID is a torrent
+    pub torrent-fits : isId (integerAt p v) ≡ true → Fits Items.Torrents p at end
+    unfolding itemEnd
+    torrent-fits h = (torrent-found, number (integerAt p v) refl h)
+      where
+        by-id : (z : ℤ) (k : ℕ) → integerAt p v ≡ Number.Integer z k → (i : OptionalId) → torrentIdOf z ≡ i → hasId i ≡ true → torrentEnd p at ≡ OptionalEnd.End end
+        by-id z k q (OptionalId.Id id) r h =
+            let noted = noted-found Profile.Loose p (ascii "id") (at + 1) end v e in
+            let field : fieldOf p (ascii "id") (at + 1) ≡ Field.Integer z k = entry-integer Profile.Loose recordLevels p (ascii "id") (at + 1) end v (noted .0) (noted .1) z k q in
+            let rest : skipRest p k ≡ end = entry-rest Profile.Loose recordLevels p (ascii "id") (at + 1) end v (noted .0) (noted .1) z k q in
+            sym (torrent-field p at b) ∙ rw (field, r, rest) refl
+        by-id z k q OptionalId.None r h = let n : _≡_ {A = ℕ} 0 1 = cc in absurd (omega arith)
+
+        number : (n : Number) → integerAt p v ≡ n → isId n ≡ true → torrentEnd p at ≡ OptionalEnd.End end
+        number (Number.Integer z k) q h = by-id z k q (torrentIdOf z) refl h
+        number (Number.Fault f) q h = let n : _≡_ {A = ℕ} 0 1 = cc in absurd (omega arith)

@@ -1,0 +1,33 @@
+-- What the functions of lists.rt promise: each way is an equation of `Walk` and of `Format`.
+-- Assumes nothing.
+use Prim.Native.Nat.{ℕ}
+use mathlib.Core.Path.{_≡_}
+use mathlib.Core.Bool.{Bool, true, false}
+use mathlib.Core.List.{List}
+use Rattle.bencode.specs.declared.fault.Walk.{Walk}
+use Rattle.bencode.specs.declared.integers.Number.{Number}
+use Rattle.bencode.specs.declared.profile.Profile.{Profile}
+use Rattle.bencode.specs.Depth.{sublistLevels}
+use Rattle.bencode.specs.Walk.{listAt}
+use Rattle.ipc.specs.declared.format.Items.{Items}
+use Rattle.ipc.specs.declared.format.OptionalEnd.{OptionalEnd}
+use Rattle.ipc.specs.declared.ids.OptionalId.{OptionalId}
+use Rattle.ipc.specs.declared.lists.ListCheck.{ListCheck}
+use Rattle.ipc.specs.Format.{itemsEnd}
+use Rattle.ipc.specs.Ids.{torrentIdOf}
+
+-- is there a torrent ID
+abbrev pub hasId : OptionalId → Bool
+hasId (OptionalId.Id id) = true
+hasId OptionalId.None = false
+
+abbrev pub isId : Number → Bool
+isId (Number.Integer z end) = hasId (torrentIdOf z)
+isId (Number.Fault f) = false
+
+-- the list whose items start at an offset: it ends and every item is in its format; it is the list that goes on at another
+-- offset; or it has a fault
+abbrev pub Listing : Items → List ℕ → ℕ → ListCheck → Type 0
+Listing items p from (ListCheck.Fits end) = (listAt Profile.Loose sublistLevels p from ≡ Walk.End end) × (itemsEnd items p from ≡ OptionalEnd.End end)
+Listing items p from (ListCheck.Off at) = listAt Profile.Loose sublistLevels p at ≡ listAt Profile.Loose sublistLevels p from
+Listing items p from (ListCheck.Fault f) = listAt Profile.Loose sublistLevels p from ≡ Walk.Fault f
