@@ -1,11 +1,11 @@
 // The listed keys: a table of their bytes, formats and whether they are written, and the number of a key.
 ghost use mathlib.Core.Path.{_≡_};
 ghost use Prim.Native.Nat.{_≤_, _<_};
-ghost use lib.ListN.{length};
+ghost use lib.ListN.{length, take};
 ghost use Rattle.octets.specs.Put.{Put};
 ghost use Rattle.bencode.specs.Value.{encodeString};
 ghost use Rattle.octets.specs.Bytes.{same};
-ghost use Rattle.ipc.specs.Keys.{keyCount, rowOf, rowAt, nameAt, listedAt, keyText, keyNumber, classOf, isWritten};
+ghost use Rattle.ipc.specs.Keys.{keyCount, rowOf, rowAt, listedAt, keyText, keyNumber, classOf, isWritten};
 use bencode::put_string;
 
 // The formats of values. A key that is not listed takes any value.
@@ -173,23 +173,24 @@ fn row_at(k: usize) -> KeyRow
 }
 
 // Is a text the key of a row.
-fn is_key(k: usize, text: &[u8]) -> bool
-    requires { ⌜ k < keyCount ⌝ }
-    ensures { λ r. ⌜ r ≡ same (nameAt k) (now (text .entry)) ⌝ }
+fn is_row(row: KeyRow, text: &[u8]) -> bool
+    requires { ⌜ row .length ≤ length (row .text) ⌝ }
+    ensures { λ r. ⌜ r ≡ same (take (row .length) (row .text)) (now (text .entry)) ⌝ }
 {
-    let row = row_at(k);
     let n = row.length;
     let name = row.text;
     octets::same(&name[..n], text)
 }
 
-// The number of a key, and 0 for one that is not listed.
+// The number of a key, and 0 for one that is not listed. The table is copied once, not a row of it for each key.
 pub fn key_number(text: &[u8]) -> u8
     ensures { λ r. ⌜ r ≡ keyNumber (now (text .entry)) ⌝ }
 {
+    let keys = KEYS;
     let mut k: usize = 0;
     while k < LISTED {
-        if is_key(k, text) {
+        let row = keys[k];
+        if is_row(row, text) {
             return (k + 1) as u8;
         }
         k += 1;

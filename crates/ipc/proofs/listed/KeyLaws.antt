@@ -1,8 +1,8 @@
--- Laws of the listed keys. The table of the source is the list of the document: one computation, at `row_at`.
+-- Laws of the listed keys. The table of the source is the list of the document: one computation, at `row_at` and at `key_number`.
 -- Assumes nothing.
 use Prim.Native.Nat.{ℕ, zero, suc, _-_, _≤_, _<_, max}
 use mathlib.Core.Path.{_≡_, refl, sym, ap, subst, _∙_}
-use mathlib.Core.Bool.{true, false, cond}
+use mathlib.Core.Bool.{Bool, true, false, cond}
 use mathlib.Core.List.{List, [], _∷_, map}
 use native.Mathlib.Nat.{le-of-suc-le-suc, not-suc-le-zero}
 use native.Mathlib.Omega.{arith}
@@ -36,13 +36,16 @@ module _ (x : Listed) (row : KeyRow) (e : row ≡ rowOf x) where
   row-fits = let n = ascii (x .name) in rw e (omega (arith, length-append n (replicate (14 - length n) 0)))
 
 module _ (k : ℕ) (row : KeyRow) (e : row ≡ rowAt k) where
-  pub table-name : take (row .length) (row .text) ≡ nameAt k
+  table-name : take (row .length) (row .text) ≡ nameAt k
   unfolding rowAt nameAt
   table-name = row-text (getD listed k unlisted) row e
 
   pub table-fits : row .length ≤ length (row .text)
   unfolding rowAt
   table-fits = row-fits (getD listed k unlisted) row e
+
+  pub table-same : (text : List ℕ) (t : Bool) → same (take (row .length) (row .text)) text ≡ t → same (nameAt k) text ≡ t
+  table-same text t h = ap (λ (x : List ℕ). same x text) (sym table-name) ∙ h
 
 module _ (text : List ℕ) (k : ℕ) where
   number-step : k < 20 → numberFrom (suc k) (drop k listed) text ≡ cond (same (nameAt k) text) (suc k) (numberFrom (suc (suc k)) (drop (suc k) listed) text)

@@ -1,28 +1,36 @@
--- `ipc::keys::key_number` meets its contract: the keys from the present one on decide.
+-- `ipc::keys::key_number` meets its contract: the keys from the present one on decide, and its table is the document's list.
 -- Assumes nothing.
--- uses
-use Prim.Native.Nat.{suc, _-_, _≤_}
-use mathlib.Core.Path.{_≡_, sym, _∙_}
+use mathlib.Core.Bool.{true, false}
+use Rattle.octets.specs.Bytes.{same}
+use Rattle.ipc.specs.Keys.{nameAt, listed, numberFrom, keyNumber}
+use Rattle.ipc.proofs.listed.KeyLaws.{table-same, row-right, table-fits, number-here, number-next, number-none, number-all}
 use native.Mathlib.Numerals.{add-one}
 use native.Mathlib.Omega.{arith}
+use Rattle.octets.specs.Ascii.{ascii}
+use Prim.Native.Nat.{suc, _-_, _≤_}
+use mathlib.Core.Path.{_≡_, sym, _∙_}
 use lib.ListN.{drop}
-use Rattle.ipc.specs.Keys.{listed, numberFrom, keyNumber}
-use Rattle.ipc.proofs.listed.KeyLaws.{number-here, number-next, number-none, number-all}
--- uses-end
 use Rattle.ipc.proofs.keys.key_number.Statement.{statement}
 use Rattle.ipc.proofs.keys.key_number.Tie as tie
 
 abbrev Inv-loop : tie.InvT-loop
-Inv-loop text k₀ k = (k ≤ 20) × (numberFrom (suc k) (drop k listed) text ≡ keyNumber text)
+Inv-loop text keys k₀ k = (k ≤ 20) × (numberFrom (suc k) (drop k listed) text ≡ keyNumber text)
 
 abbrev μ-loop : tie.MeasureT-loop
-μ-loop text k₀ k = 20 - k
+μ-loop text keys k₀ k = 20 - k
 
 loop-holds : tie.Need-loop-holds Inv-loop μ-loop
 loop-holds c = (omega arith, number-all (c .before .args .text .now))
 
-is-key-requires : tie.Need-is-key-requires Inv-loop μ-loop
-is-key-requires c κs = omega arith
+mul-row : tie.Need-mul-row Inv-loop μ-loop
+mul-row c = omega arith
+
+array-copy-out-row : tie.Need-array-copy-out-row Inv-loop μ-loop
+array-copy-out-row c = omega arith
+
+is-row-requires : tie.Need-is-row-requires Inv-loop μ-loop
+unfolding listed ascii
+is-row-requires c κs = table-fits (c .before .before .loop .k) _ (row-right _ (c .before .before .loop .k) (omega arith))
 
 add-result : tie.Need-add-result Inv-loop μ-loop
 add-result c = omega arith
@@ -31,10 +39,12 @@ cast-result : tie.Need-cast-result Inv-loop μ-loop
 cast-result c = omega arith
 
 returns : tie.Need-returns Inv-loop μ-loop
+unfolding listed ascii
 returns c =
-    let a = c .before .before .before .before .before .args in
-    let l = c .before .before .before .loop in
-    rw (add-one (l .k)) (number-here (a .text .now) (l .k) (omega arith) (sym (c .before .is-key .ensures) ∙ c .if1 .taken) ∙ l .inv .1)
+    let text = c .before .before .before .before .before .before .args .text .now in
+    let l = c .before .before .before .before .loop in
+    let here : same (nameAt (l .k)) text ≡ true = table-same (l .k) _ (row-right _ (l .k) (omega arith)) text true (sym (c .before .is-row .ensures) ∙ c .if1 .taken) in
+    rw (add-one (l .k)) (number-here text (l .k) (omega arith) here ∙ l .inv .1)
 
 add-k : tie.Need-add-k Inv-loop μ-loop
 add-k c = omega arith
@@ -43,10 +53,12 @@ loop-less : tie.Need-loop-less Inv-loop μ-loop
 loop-less c = omega arith
 
 loop-again : tie.Need-loop-again Inv-loop μ-loop
+unfolding listed ascii
 loop-again c =
-    let a = c .before .before .before .before .before .args in
-    let l = c .before .before .before .loop in
-    (omega arith, rw (add-one (l .k)) (number-next (a .text .now) (l .k) (omega arith) (sym (c .before .is-key .ensures) ∙ c .if1 .left) ∙ l .inv .1))
+    let text = c .before .before .before .before .before .before .args .text .now in
+    let l = c .before .before .before .before .loop in
+    let other : same (nameAt (l .k)) text ≡ false = table-same (l .k) _ (row-right _ (l .k) (omega arith)) text false (sym (c .before .is-row .ensures) ∙ c .if1 .left) in
+    (omega arith, rw (add-one (l .k)) (number-next text (l .k) (omega arith) other ∙ l .inv .1))
 
 returns-2 : tie.Need-returns-2 Inv-loop μ-loop
 returns-2 c =
@@ -60,7 +72,9 @@ key-number-spec =
     Inv-loop
     μ-loop
     loop-holds
-    is-key-requires
+    mul-row
+    array-copy-out-row
+    is-row-requires
     add-result
     cast-result
     returns
