@@ -11,7 +11,7 @@ use Rattle.bencode.specs.declared.key.KeyCheck.{KeyCheck}
 use Rattle.bencode.specs.declared.profile.Profile.{Profile}
 use Rattle.octets.specs.Bytes.{slice, less}
 use Rattle.bencode.specs.Entry.{entryAt}
-use Rattle.bencode.specs.Marks.{isMarked, withMark}
+use Rattle.bencode.specs.Marks.{placeOf, isMarked, withMark}
 
 -- was a key found before an offset
 abbrev pub foundBefore : ℕ → Entry → Bool
@@ -28,7 +28,7 @@ noneSeen first = record { first = first; start = 0; end = 0; marks = 0 }
 
 -- the same, by a search only where the key's mark is there
 unfoldable pub repeatedAt : List ℕ → Seen → List ℕ → ℕ → Bool
-repeatedAt s seen key end = cond (isMarked (seen .marks) key) (usedAt s (seen .first) key end) false
+repeatedAt s seen key end = cond (isMarked (seen .marks) (placeOf key)) (usedAt s (seen .first) key end) false
 
 -- is a key above those of the entries before an offset, of which the greatest is kept
 unfoldable pub aboveAt : List ℕ → Seen → ℕ → List ℕ → Bool
@@ -36,10 +36,10 @@ aboveAt s seen at key = cond (leb at (seen .first)) true (less (slice s (seen .s
 
 -- what is kept after a key: from start up to end where it is the greatest, else with its mark alone
 abbrev pub risen : List ℕ → Seen → ℕ → ℕ → Seen
-risen s seen start end = record { first = seen .first; start = start; end = end; marks = withMark (seen .marks) (slice s start end) }
+risen s seen start end = record { first = seen .first; start = start; end = end; marks = withMark (seen .marks) (placeOf (slice s start end)) }
 
 abbrev pub marked : Seen → List ℕ → Seen
-marked seen key = record { first = seen .first; start = seen .start; end = seen .end; marks = withMark (seen .marks) key }
+marked seen key = record { first = seen .first; start = seen .start; end = seen .end; marks = withMark (seen .marks) (placeOf key) }
 
 -- the check of a key that comes once and is not above the earlier ones
 abbrev pub unsorted : Profile → Seen → KeyCheck

@@ -10,12 +10,12 @@ use Rattle.octets.specs.Bytes.{byteAt}
 
 -- the place of a key's mark: equal keys have one place
 unfoldable pub placeOf : List ℕ → ℕ
-placeOf key = (length key % 64 + byteAt key 0 + byteAt key 1 * 2) % 64
+placeOf key = (length key % 4 * 16 + byteAt key 0) % 64
 
--- is a key's mark there
-unfoldable pub isMarked : ℕ → List ℕ → Bool
-isMarked marks key = eqb (marks / 2 ^ placeOf key % 2) 1
+-- is the mark at a place there
+unfoldable pub isMarked : ℕ → ℕ → Bool
+isMarked marks place = eqb (marks / 2 ^ place % 2) 1
 
--- the marks with that of a key
-unfoldable pub withMark : ℕ → List ℕ → ℕ
-withMark marks key = bitOr marks (2 ^ placeOf key)
+-- the marks with that at a place
+unfoldable pub withMark : ℕ → ℕ → ℕ
+withMark marks place = bitOr marks (2 ^ place)

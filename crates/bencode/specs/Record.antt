@@ -1,4 +1,4 @@
--- `notedOf` and `notedAt` are to be believed; the rest is pinned by the promise of `record`, and nothing public cites it. A
+-- `notedOf` and `notedAt` are to be believed; the rest is pinned by the promises of `dictionary` and `value`, and nothing public cites it. A
 -- dictionary walked, and the value of a key noted on the way.
 -- Assumes nothing.
 use Prim.Native.Nat.{ℕ, zero, suc}
@@ -17,6 +17,12 @@ abbrev pub notedOf : Walk → Entry → Noted
 notedOf (Walk.End end) (Entry.At value) = Noted.Found end value
 notedOf (Walk.End end) Entry.Missing = Noted.Missing end
 notedOf (Walk.Fault f) e = Noted.Fault f
+
+-- the walk of a dictionary, without what was noted
+abbrev pub endOf : Noted → Walk
+endOf (Noted.Found end value) = Walk.End end
+endOf (Noted.Missing end) = Walk.End end
+endOf (Noted.Fault f) = Walk.Fault f
 
 -- the dictionary whose entries start at an offset, as a value of a list in a payload that is a list
 unfoldable pub notedAt : Profile → List ℕ → List ℕ → ℕ → Noted

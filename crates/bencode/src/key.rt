@@ -1,13 +1,15 @@
 // The key rule: which keys may follow which in a dictionary. A key above all earlier ones costs one comparison.
 ghost use mathlib.Core.Path.{_≡_};
-ghost use Prim.Native.Nat.{_≤_};
+ghost use Prim.Native.Nat.{_≤_, _<_};
 ghost use lib.ListN.{length};
 ghost use Rattle.octets.specs.Bytes.{slice};
+ghost use Rattle.bencode.specs.Marks.{placeOf};
 ghost use Rattle.bencode.specs.KeySearch.{noneSeen, usedAt, repeatedAt, aboveAt, keyAt};
 use super::entry::Entry;
 use super::entry::find;
 use super::fault::Fault;
 use super::marks::is_marked;
+use super::marks::place;
 use super::marks::with_mark;
 use super::profile::Profile;
 use octets::less;
@@ -53,14 +55,14 @@ fn key_used(s: &[u8], first: usize, start: usize, end: usize) -> bool
     }
 }
 
-// The same, by a search only where the key's mark is there.
-fn key_repeated(s: &[u8], seen: Seen, start: usize, end: usize) -> bool
-    requires { ⌜ (start ≤ end) × (end ≤ length (now s)) ⌝ }
+// The same, by a search only where the key's mark, at a place, is there.
+fn key_repeated(s: &[u8], seen: Seen, start: usize, end: usize, place: u64) -> bool
+    requires { ⌜ (start ≤ end) × (end ≤ length (now s)) × (place ≡ placeOf (slice (now s) start end)) × (place < 64) ⌝ }
     ensures { λ r. ⌜ r ≡ repeatedAt (now (s .entry)) seen (slice (now (s .entry)) start end) end ⌝ }
 {
     let first = seen.first;
     let marks = seen.marks;
-    if is_marked(marks, &s[start..end]) {
+    if is_marked(marks, place) {
         return key_used(s, first, start, end);
     }
     false
@@ -95,7 +97,8 @@ pub fn check_key(
     let first = seen.first;
     let from = seen.start;
     let to = seen.end;
-    let marks = with_mark(seen.marks, &s[start..end]);
+    let place = place(&s[start..end]);
+    let marks = with_mark(seen.marks, place);
     if key_above(s, seen, at, start, end) {
         return KeyCheck::Allowed(Seen {
             first,
@@ -104,7 +107,7 @@ pub fn check_key(
             marks,
         });
     }
-    if key_repeated(s, seen, start, end) {
+    if key_repeated(s, seen, start, end, place) {
         return KeyCheck::Refused(Fault::REPEATED_KEY);
     }
     match profile {

@@ -11,26 +11,27 @@ fn wide(b: u8) -> u64
     b as u64
 }
 
-// The place of a key's mark, by its length and its first two bytes.
-fn place(key: &[u8]) -> u64
+// The place of a key's mark, by its length and its first byte.
+pub fn place(key: &[u8]) -> u64
     ensures { λ r. ⌜ (r ≡ placeOf (now (key .entry))) × (r < 64) ⌝ }
 {
-    let length = key.len() as u64 % 64;
+    let length = key.len() as u64 % 4;
     let first = wide(byte_at(key, 0));
-    let second = wide(byte_at(key, 1));
-    (length + first + second * 2) % 64
+    (length * 16 + first) % 64
 }
 
-// Is a key's mark there.
-pub fn is_marked(marks: u64, key: &[u8]) -> bool
-    ensures { λ r. ⌜ r ≡ isMarked marks (now (key .entry)) ⌝ }
+// Is the mark at a place there.
+pub fn is_marked(marks: u64, place: u64) -> bool
+    requires { ⌜ place < 64 ⌝ }
+    ensures { λ r. ⌜ r ≡ isMarked marks place ⌝ }
 {
-    (marks >> place(key)) % 2 == 1
+    (marks >> place) % 2 == 1
 }
 
-// The marks with that of a key.
-pub fn with_mark(marks: u64, key: &[u8]) -> u64
-    ensures { λ r. ⌜ r ≡ withMark marks (now (key .entry)) ⌝ }
+// The marks with that at a place.
+pub fn with_mark(marks: u64, place: u64) -> u64
+    requires { ⌜ place < 64 ⌝ }
+    ensures { λ r. ⌜ r ≡ withMark marks place ⌝ }
 {
-    marks | 1 << place(key)
+    marks | 1 << place
 }

@@ -1,24 +1,16 @@
-// A dictionary walked, and the value of a key noted on the way.
+// A dictionary walked, and the value of a key noted on the way: so a dictionary need not be searched for it afterwards.
 ghost use mathlib.Core.Path.{_≡_};
 ghost use Prim.Native.Nat.{_≤_};
 ghost use lib.ListN.{length};
 ghost use Rattle.bencode.specs.declared.entry.Entry.{Entry};
 ghost use Rattle.octets.specs.Bytes.{slice, same};
-ghost use Rattle.bencode.specs.Record.{notedOf, foundAfter, notedEnd, notedAt};
-use super::classes::class_at;
+ghost use Rattle.bencode.specs.Record.{notedOf, endOf, foundAfter, notedEnd, notedAt};
 use super::classes::classes;
 use super::depth::Depth;
 use super::fault::Fault;
 use super::fault::Walk;
-use super::key::KeyCheck;
-use super::key::Seen;
-use super::key::check_key;
 use super::profile::Profile;
-use super::scalar::after_scalar;
-use super::strings::Text;
-use super::strings::string;
-use super::strings::string_end;
-use super::walk::value;
+use super::walk::dictionary;
 
 // The offset after a dictionary, with the offset of the value of a key if it has it; or the dictionary's fault.
 pub enum Noted {
@@ -28,7 +20,7 @@ pub enum Noted {
 }
 
 // Where the value of a key was found, 0 for nowhere, after one entry more, whose key is from start up to end.
-fn found_after(found: usize, s: &[u8], start: usize, end: usize, key: &[u8]) -> usize
+pub fn found_after(found: usize, s: &[u8], start: usize, end: usize, key: &[u8]) -> usize
     requires { ⌜ (start ≤ end) × (end ≤ length (now s)) ⌝ }
     ensures { λ r. ⌜ r ≡ foundAfter found (same (slice (now (s .entry)) start end) (now (key .entry))) end ⌝ }
 {
@@ -42,7 +34,7 @@ fn found_after(found: usize, s: &[u8], start: usize, end: usize, key: &[u8]) -> 
 }
 
 // A dictionary that ends, with where the value of the key was found.
-fn noted_end(end: usize, found: usize) -> Noted
+pub fn noted_end(end: usize, found: usize) -> Noted
     ensures { λ r. ⌜ r ≡ notedEnd found end ⌝ }
 {
     if found == 0 {
@@ -52,7 +44,7 @@ fn noted_end(end: usize, found: usize) -> Noted
 }
 
 // A dictionary that comes to what one of its keys comes to.
-fn noted_key(walk: Walk) -> Noted
+pub fn noted_key(walk: Walk) -> Noted
     ensures { λ r. ⌜ r ≡ notedOf walk Entry.Missing ⌝ }
 {
     match walk {
@@ -61,42 +53,21 @@ fn noted_key(walk: Walk) -> Noted
     }
 }
 
+// The walk of a dictionary, without what was noted.
+pub fn end_of(noted: Noted) -> Walk
+    ensures { λ r. ⌜ r ≡ endOf noted ⌝ }
+{
+    match noted {
+        Noted::Found { end, value: _ } => Walk::End(end),
+        Noted::Missing(end) => Walk::End(end),
+        Noted::Fault(f) => Walk::Fault(f),
+    }
+}
+
 // Walks the dictionary whose entries start at an offset, as a value of a list in a payload that is a list.
 pub fn record(s: &[u8], from: usize, key: &[u8], profile: Profile) -> Noted
     ensures { λ r. ⌜ r ≡ notedAt profile (now (s .entry)) (now (key .entry)) from ⌝ }
 {
     let table = classes();
-    let mut at = from;
-    let mut seen = Seen::none(from);
-    let mut found: usize = 0;
-    loop {
-        if class_at(&table, s, at) == b'e' {
-            return noted_end(at + 1, found);
-        }
-        let Text::Bytes { start, end } = string(s, at) else {
-            return noted_key(string_end(s, at));
-        };
-        match check_key(s, seen, at, start, end, profile) {
-            KeyCheck::Refused(code) => {
-                return Noted::Fault(Fault { code, offset: at });
-            }
-            KeyCheck::Allowed(next) => {
-                seen = next;
-            }
-        }
-        found = found_after(found, s, start, end, key);
-        let after = after_scalar(s, end);
-        if after != 0 {
-            at = after;
-        } else {
-            match value(s, end, Depth::in_record(), profile, &table) {
-                Walk::End(to) => {
-                    at = to;
-                }
-                Walk::Fault(f) => {
-                    return Noted::Fault(f);
-                }
-            }
-        }
-    }
+    dictionary(s, from, key, Depth::in_record(), profile, &table)
 }

@@ -4,7 +4,9 @@ ghost use mathlib.Core.Bool.{true};
 ghost use Prim.Native.Nat.{_≤_};
 ghost use Rattle.bencode.specs.Classes.{isTable};
 ghost use Rattle.bencode.specs.Depth.{largestDepth, levelsLeft};
+ghost use Rattle.bencode.specs.Entry.{entryAt};
 ghost use Rattle.bencode.specs.Fault.{codeOf, offsetOf};
+ghost use Rattle.bencode.specs.Record.{notedOf};
 ghost use Rattle.bencode.specs.Walk.{valueAt, listAt, dictionaryAt, whole, payloadAt, payloadCode, payloadOffset};
 use super::classes::class_at;
 use super::classes::classes;
@@ -16,6 +18,11 @@ use super::key::KeyCheck;
 use super::key::Seen;
 use super::key::check_key;
 use super::profile::Profile;
+use super::records::Noted;
+use super::records::end_of;
+use super::records::found_after;
+use super::records::noted_end;
+use super::records::noted_key;
 use super::scalar::after_scalar;
 use super::scalar::scalar_end;
 use super::strings::Text;
@@ -39,7 +46,7 @@ pub fn value(s: &[u8], at: usize, depth: Depth, profile: Profile, classes: &[u8;
     }
     if class == b'd' {
         return match depth.nested() {
-            Deeper::Depth(inner) => dictionary(s, at + 1, inner, profile, classes),
+            Deeper::Depth(inner) => end_of(dictionary(s, at + 1, b"", inner, profile, classes)),
             Deeper::TooDeep => Walk::Fault(Fault {
                 code: Fault::DEPTH,
                 offset: at,
@@ -75,28 +82,37 @@ pub fn list(s: &[u8], from: usize, depth: Depth, profile: Profile, classes: &[u8
     }
 }
 
-// The offset after the dictionary whose entries start at an offset.
-fn dictionary(s: &[u8], from: usize, depth: Depth, profile: Profile, classes: &[u8; 256]) -> Walk
+// The offset after the dictionary whose entries start at an offset, and where the value of a key is in it.
+pub fn dictionary(
+    s: &[u8],
+    from: usize,
+    key: &[u8],
+    depth: Depth,
+    profile: Profile,
+    classes: &[u8; 256],
+) -> Noted
     requires { ⌜ (depth .0 ≤ largestDepth) × (isTable (now classes) ≡ true) ⌝ }
-    ensures { λ r. ⌜ r ≡ dictionaryAt profile (levelsLeft depth) (now (s .entry)) from ⌝ }
+    ensures { λ r. ⌜ r ≡ notedOf (dictionaryAt profile (levelsLeft depth) (now (s .entry)) from) (entryAt (now (s .entry)) (now (key .entry)) from) ⌝ }
 {
     let mut at = from;
     let mut seen = Seen::none(from);
+    let mut found: usize = 0;
     loop {
         if class_at(classes, s, at) == b'e' {
-            return Walk::End(at + 1);
+            return noted_end(at + 1, found);
         }
         let Text::Bytes { start, end } = string(s, at) else {
-            return string_end(s, at);
+            return noted_key(string_end(s, at));
         };
         match check_key(s, seen, at, start, end, profile) {
             KeyCheck::Refused(code) => {
-                return Walk::Fault(Fault { code, offset: at });
+                return Noted::Fault(Fault { code, offset: at });
             }
             KeyCheck::Allowed(next) => {
                 seen = next;
             }
         }
+        found = found_after(found, s, start, end, key);
         let after = after_scalar(s, end);
         if after != 0 {
             at = after;
@@ -106,7 +122,7 @@ fn dictionary(s: &[u8], from: usize, depth: Depth, profile: Profile, classes: &[
                     at = to;
                 }
                 Walk::Fault(f) => {
-                    return Walk::Fault(f);
+                    return Noted::Fault(f);
                 }
             }
         }

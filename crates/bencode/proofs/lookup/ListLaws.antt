@@ -5,8 +5,6 @@ use mathlib.Core.Path.{_≡_, refl, sym, ap, _∙_}
 use mathlib.Core.Bool.{Bool, true, false, cond}
 use mathlib.Core.List.{List}
 use native.Mathlib.Omega.{arith}
-use borrow.Author.Tests.{eq-eqb}
-use lib.Dec.{eqb}
 use lib.IntN.{ℤ}
 use Rattle.bencode.specs.declared.fault.Fault.{Fault}
 use Rattle.bencode.specs.declared.fault.Walk.{Walk}
@@ -17,13 +15,12 @@ use Rattle.bencode.specs.declared.strings.Text.{Text}
 use Rattle.octets.specs.Bytes.{byteAt}
 use Rattle.bencode.specs.Depth.{listLevels}
 use Rattle.bencode.specs.Fault.{afterOf}
-use Rattle.bencode.specs.Integers.{within, integerAt, numberEnd, afterPositive}
+use Rattle.bencode.specs.Integers.{within, integerAt, afterPositive}
 use Rattle.bencode.specs.Item.{itemAt}
-use Rattle.bencode.specs.Scalar.{scalarAt}
 use Rattle.bencode.specs.Strings.{stringAt, textEnd}
 use Rattle.bencode.specs.Walk.{valueAt, listAt, whole, payloadAt}
-use Rattle.bencode.proofs.walking.Ends.{SignedInteger, plus, minus, string-whole-inv, integer-inv, scalar-ends}
-use Rattle.bencode.proofs.walking.WalkLaws.{value-ends, value-scalar, value-list, list-fault, list-more}
+use Rattle.bencode.proofs.walking.Ends.{SignedInteger, plus, minus, string-whole-inv, integer-inv, integer-scalar}
+use Rattle.bencode.proofs.walking.WalkLaws.{value-ends, value-list, scalar-value, list-fault, list-more}
 use Rattle.bencode.proofs.lookup.SkipLaws.{value-skips, string-scalar}
 use Rattle.bencode.proofs.lookup.ItemLaws.{item-value}
 
@@ -48,23 +45,19 @@ module _ (s : List ℕ) (at r : ℕ) (some : r ≡ 0 → ⊥) where
       go (Number.Fault f) q e = absurd (some e)
 
 -- ---- an integer, a string and a value that were read
-pub integer-scalar : (s : List ℕ) (at : ℕ) (z : ℤ) (end : ℕ) → integerAt s at ≡ Number.Integer z end → (byteAt s at ≡ 105) × (scalarAt s at ≡ Walk.End end)
-unfolding scalarAt
-integer-scalar s at z end e = go (integer-inv s at z end e)
+pub integer-first : (s : List ℕ) (at : ℕ) (z : ℤ) (end : ℕ) → integerAt s at ≡ Number.Integer z end → byteAt s at ≡ 105
+integer-first s at z end e = go (integer-inv s at z end e)
   where
-    go : SignedInteger s at z end → (byteAt s at ≡ 105) × (cond (eqb (byteAt s at) 105) (numberEnd (integerAt s at)) (textEnd (stringAt s at)) ≡ Walk.End end)
-    go (plus b w) = (b, rw (eq-eqb (byteAt s at) 105 b, e) refl)
-    go (minus b c d w) = (b, rw (eq-eqb (byteAt s at) 105 b, e) refl)
+    go : SignedInteger s at z end → byteAt s at ≡ 105
+    go (plus b w) = b
+    go (minus b c d w) = b
 
 module _ (p : Profile) (levels : ℕ) (s : List ℕ) (at : ℕ) where
-  scalar-value : (end : ℕ) → scalarAt s at ≡ Walk.End end → valueAt p levels s at ≡ Walk.End end
-  scalar-value end e = let w = scalar-ends s at end e in sym (value-scalar p levels s at (w .no-list) (w .no-dictionary)) ∙ e
-
   pub integer-value : (z : ℤ) (end : ℕ) → integerAt s at ≡ Number.Integer z end → valueAt p levels s at ≡ Walk.End end
-  integer-value z end e = scalar-value end (integer-scalar s at z end e .1)
+  integer-value z end e = scalar-value p levels s at end (integer-scalar s at z end e)
 
   pub string-value : (start end : ℕ) → stringAt s at ≡ Text.Bytes start end → valueAt p levels s at ≡ Walk.End end
-  string-value start end e = scalar-value end (string-scalar s at start end e)
+  string-value start end e = scalar-value p levels s at end (string-scalar s at start end e)
 
   -- a value that was walked is the item there
   pub value-item : (end : ℕ) → (byteAt s at ≡ 101 → ⊥) → valueAt p levels s at ≡ Walk.End end → Item.Value end ≡ itemAt s at

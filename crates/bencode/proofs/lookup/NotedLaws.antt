@@ -32,7 +32,7 @@ use Rattle.bencode.specs.Walk.{onward, entryStep, dictionaryStep, dictio
 use Rattle.bencode.proofs.values.FirstBytes.{no-string}
 use Rattle.bencode.proofs.lookup.EntryLaws.{find-none, find-here, find-more}
 use Rattle.bencode.proofs.lookup.FieldLaws.{field-integer, field-entry}
-use Rattle.bencode.proofs.lookup.ListLaws.{integer-scalar, integer-value}
+use Rattle.bencode.proofs.lookup.ListLaws.{integer-first, integer-value}
 use Rattle.bencode.proofs.lookup.SkipLaws.{Skips, dictionary-skips, value-skips}
 
 -- ---- what was noted
@@ -111,7 +111,7 @@ module _ (p : Profile) (levels : ℕ) (s key : List ℕ) (from end v : ℕ) (wal
   -- an integer there is the field of the key, and the dictionary ends where skipping on from it does
   module _ (z : ℤ) (e : ℕ) (number : integerAt s v ≡ Number.Integer z e) where
     pub entry-integer : fieldOf s key from ≡ Field.Integer z e
-    entry-integer = field-entry s key from (Entry.At v) is ∙ field-integer s v (integer-scalar s v z e number .0) ∙ ap numberField number
+    entry-integer = field-entry s key from (Entry.At v) is ∙ field-integer s v (integer-first s v z e number) ∙ ap numberField number
 
     pub entry-rest : skipRest s e ≡ end
     entry-rest =

@@ -12,9 +12,8 @@ use Rattle.bencode.specs.declared.profile.Profile.{Profile}
 use Rattle.bencode.specs.declared.records.Noted.{Noted}
 use Rattle.bencode.specs.declared.strings.Text.{Text}
 use Rattle.octets.specs.Bytes.{byteAt, slice, same}
-use Rattle.bencode.specs.Depth.{recordLevels}
 use Rattle.bencode.specs.Entry.{entryAt}
-use Rattle.bencode.specs.Record.{foundAfter, notedEnd, notedOf, notedAt}
+use Rattle.bencode.specs.Record.{endOf, foundAfter, notedEnd, notedOf}
 use Rattle.bencode.specs.Strings.{stringAt}
 use Rattle.bencode.specs.Walk.{valueAt, dictionaryAt}
 use Rattle.bencode.proofs.values.FirstBytes.{no-string}
@@ -27,9 +26,9 @@ abbrev pub Looked : List ℕ → List ℕ → ℕ → ℕ → ℕ → Type 0
 Looked s key from at zero = entryAt s key from ≡ entryAt s key at
 Looked s key from at (suc found) = entryAt s key from ≡ Entry.At (suc found)
 
-module _ (p : Profile) (s key : List ℕ) (from at found : ℕ) (looked : Looked s key from at found) where
+module _ (p : Profile) (levels : ℕ) (s key : List ℕ) (from at found : ℕ) (looked : Looked s key from at found) where
   -- past one entry more
-  pub looked-more : (start end to : ℕ) → stringAt s at ≡ Text.Bytes start end → valueAt p recordLevels s end ≡ Walk.End to → Looked s key from to (foundAfter found (same (slice s start end) key) end)
+  pub looked-more : (start end to : ℕ) → stringAt s at ≡ Text.Bytes start end → valueAt p levels s end ≡ Walk.End to → Looked s key from to (foundAfter found (same (slice s start end) key) end)
   looked-more start end to text v = go found looked (same (slice s start end) key) refl
     where
       here : (e : ℕ) → e ≡ end → entryAt s key from ≡ Entry.At end → Looked s key from to e
@@ -38,21 +37,25 @@ module _ (p : Profile) (s key : List ℕ) (from at found : ℕ) (looked : Looked
 
       go : (found : ℕ) → Looked s key from at found → (t : Bool) → same (slice s start end) key ≡ t → Looked s key from to (foundAfter found t end)
       go zero looked true q = here end refl (looked ∙ sym (find-here s key at start end text q))
-      go zero looked false q = looked ∙ sym (find-more s key at start end text q) ∙ ap (entryAt s key) (value-skips s p recordLevels end to v 0)
+      go zero looked false q = looked ∙ sym (find-more s key at start end text q) ∙ ap (entryAt s key) (value-skips s p levels end to v 0)
       go (suc found) looked t q = looked
 
   -- at the dictionary's end
-  pub record-end : byteAt s at ≡ 101 → Walk.End (at + 1) ≡ dictionaryAt p recordLevels s from → notedEnd found (at + 1) ≡ notedAt p s key from
-  unfolding notedAt
-  record-end b e = rw (← e) (go found looked)
+  pub noted-end : byteAt s at ≡ 101 → Walk.End (at + 1) ≡ dictionaryAt p levels s from → notedEnd found (at + 1) ≡ notedOf (dictionaryAt p levels s from) (entryAt s key from)
+  noted-end b e = go found looked ∙ ap (λ (w : Walk). notedOf w (entryAt s key from)) e
     where
       go : (found : ℕ) → Looked s key from at found → notedEnd found (at + 1) ≡ notedOf (Walk.End (at + 1)) (entryAt s key from)
       go zero looked = let none = no-string s at (omega (arith, b)) in ap (notedOf (Walk.End (at + 1))) (find-none s key at (none .0) (none .1) ∙ sym looked)
       go (suc found) looked = ap (notedOf (Walk.End (at + 1))) (sym looked)
 
-pub record-fault : (p : Profile) (s key : List ℕ) (from : ℕ) (f : Fault) → Walk.Fault f ≡ dictionaryAt p recordLevels s from → Noted.Fault f ≡ notedAt p s key from
-unfolding notedAt
-record-fault p s key from f e = rw (← e) refl
+pub noted-fault : (w : Walk) (x : Entry) (f : Fault) → Walk.Fault f ≡ w → Noted.Fault f ≡ notedOf w x
+noted-fault w x f e = ap (λ (v : Walk). notedOf v x) e
+
+-- what was noted takes nothing from the walk
+pub end-noted : (w : Walk) (x : Entry) → endOf (notedOf w x) ≡ w
+end-noted (Walk.End end) (Entry.At value) = refl
+end-noted (Walk.End end) Entry.Missing = refl
+end-noted (Walk.Fault f) x = refl
 
 -- ---- each way through the parts
 pub end-missing : (end found : ℕ) → found ≡ 0 → Noted.Missing end ≡ notedEnd found end

@@ -20,7 +20,7 @@ use Rattle.bencode.specs.Key.{isUsed, isAbove, orderFault, keyFault}
 use Rattle.bencode.specs.Walk.{valueAt}
 use Rattle.bencode.specs.Skip.{skipValue}
 use Rattle.bencode.specs.Entry.{entryAt}
-use Rattle.bencode.specs.Marks.{isMarked, withMark}
+use Rattle.bencode.specs.Marks.{placeOf, isMarked, withMark}
 use Rattle.bencode.specs.KeySearch.{foundBefore, usedAt, noneSeen, repeatedAt, aboveAt, risen, marked, unsorted, keyAt}
 use Rattle.bencode.specs.Loop.{Past}
 use Rattle.bencode.proofs.walking.Ends.{string-whole-inv}
@@ -83,7 +83,7 @@ pub data Top (greatest : List ℕ) (keys : List (List ℕ)) : Type 0 where
 
 -- each key has its mark
 abbrev AllMarked : ℕ → List (List ℕ) → Type 0
-AllMarked marks keys = (key : List ℕ) → isUsed key keys ≡ true → isMarked marks key ≡ true
+AllMarked marks keys = (key : List ℕ) → isUsed key keys ≡ true → isMarked marks (placeOf key) ≡ true
 
 pub record Kept (value : ℕ → Walk) (s : List ℕ) (k : Seen) (at : ℕ) (keys : List (List ℕ)) : Type 0 where
   pub earlier : Earlier value s (k .first) at keys
@@ -96,13 +96,13 @@ pub kept-none : (value : ℕ → Walk) (s : List ℕ) (from : ℕ) → Kept valu
 unfolding isUsed
 kept-none value s from = record { earlier = none; highest = empty refl; ordered = omega arith; within = omega arith; all = λ key u. clash false u refl }
 
-marked-more : (marks : ℕ) (key : List ℕ) (keys : List (List ℕ)) → AllMarked marks keys → AllMarked (withMark marks key) (key ∷ keys)
+marked-more : (marks : ℕ) (key : List ℕ) (keys : List (List ℕ)) → AllMarked marks keys → AllMarked (withMark marks (placeOf key)) (key ∷ keys)
 unfolding isUsed
 marked-more marks key keys all other u = go (same key other) refl u
   where
-    go : (t : Bool) → same key other ≡ t → t || isUsed other keys ≡ true → isMarked (withMark marks key) other ≡ true
-    go true q u = subst (λ (k : List ℕ). isMarked (withMark marks key) k ≡ true) (same-eq key other q) (mark-comes marks key)
-    go false q u = mark-stays marks other key (all other u)
+    go : (t : Bool) → same key other ≡ t → t || isUsed other keys ≡ true → isMarked (withMark marks (placeOf key)) (placeOf other) ≡ true
+    go true q u = subst (λ (k : List ℕ). isMarked (withMark marks (placeOf key)) (placeOf k) ≡ true) (same-eq key other q) (mark-comes marks (placeOf key))
+    go false q u = mark-stays marks (placeOf other) (placeOf key) (all other u)
 
 earlier-forward : (p : Profile) (levels : ℕ) (s : List ℕ) (first at : ℕ) (keys : List (List ℕ)) → Earlier (valueAt p levels s) s first at keys → first ≤ at
 earlier-forward p levels s first at keys none = omega arith
@@ -137,14 +137,14 @@ module _ (p : Profile) (levels : ℕ) (s : List ℕ) (k : Seen) (at : ℕ) (keys
     -- a key whose mark is not there is new
     repeated-agrees : repeatedAt s k key end ≡ isUsed key keys
     unfolding repeatedAt
-    repeated-agrees = go (isMarked (k .marks) key) refl
+    repeated-agrees = go (isMarked (k .marks) (placeOf key)) refl
       where
-        go : (t : Bool) → isMarked (k .marks) key ≡ t → cond t (usedAt s (k .first) key end) false ≡ isUsed key keys
+        go : (t : Bool) → isMarked (k .marks) (placeOf key) ≡ t → cond t (usedAt s (k .first) key end) false ≡ isUsed key keys
         go true m = used-agrees p levels s (k .first) at keys (kept .earlier) start end text
         go false m = new (isUsed key keys) refl
           where
             new : (u : Bool) → isUsed key keys ≡ u → false ≡ u
-            new true q = clash (isMarked (k .marks) key) (kept .all key q) m
+            new true q = clash (isMarked (k .marks) (placeOf key)) (kept .all key q) m
             new false q = refl
 
     -- what is kept after a key that is allowed
@@ -227,10 +227,10 @@ module _ (s : List ℕ) (k : Seen) (at : ℕ) where
     key-unsorted q e a u = rw (a, u, e) refl
 
 module _ (s : List ℕ) (k : Seen) (key : List ℕ) (end : ℕ) where
-  pub repeated-marked : isMarked (k .marks) key ≡ true → usedAt s (k .first) key end ≡ repeatedAt s k key end
+  pub repeated-marked : isMarked (k .marks) (placeOf key) ≡ true → usedAt s (k .first) key end ≡ repeatedAt s k key end
   unfolding repeatedAt
   repeated-marked m = rw m refl
 
-  pub repeated-new : isMarked (k .marks) key ≡ false → false ≡ repeatedAt s k key end
+  pub repeated-new : isMarked (k .marks) (placeOf key) ≡ false → false ≡ repeatedAt s k key end
   unfolding repeatedAt
   repeated-new m = rw m refl

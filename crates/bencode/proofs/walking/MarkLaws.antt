@@ -3,13 +3,12 @@
 use Prim.Native.Nat.{ℕ, zero, suc, _*_, _/_, _%_, _^_, _<_}
 use mathlib.Core.Path.{_≡_, refl, sym, ap, _∙_}
 use mathlib.Core.Bool.{true}
-use mathlib.Core.List.{List}
 use native.Mathlib.Nat.{mod-lt, mul-div-cancel, zero-lt-suc, one-mul}
 use native.Mathlib.Omega.{arith}
 use borrow.Author.Tests.{eq-eqb, eqb-true}
 use lib.Bits.{bitOr, or-comm, or-shr, or-mod}
 use lib.Pow.{pow-pos, shl-exact}
-use Rattle.bencode.specs.Marks.{placeOf, isMarked, withMark}
+use Rattle.bencode.specs.Marks.{isMarked, withMark}
 
 one-or : (b : ℕ) → b < 2 → bitOr 1 b ≡ 1
 one-or zero h = refl
@@ -34,10 +33,10 @@ own-bit i = ap (λ (x : ℕ). x % 2) (ap (λ (x : ℕ). x / 2 ^ i) (sym (one-mul
 bit-comes : (a i : ℕ) → bitOr a (2 ^ i) / 2 ^ i % 2 ≡ 1
 bit-comes a i = ap (λ (x : ℕ). x / 2 ^ i % 2) (or-comm a (2 ^ i)) ∙ bit-stays (2 ^ i) a i (own-bit i)
 
-pub mark-stays : (marks : ℕ) (key other : List ℕ) → isMarked marks key ≡ true → isMarked (withMark marks other) key ≡ true
+pub mark-stays : (marks place other : ℕ) → isMarked marks place ≡ true → isMarked (withMark marks other) place ≡ true
 unfolding isMarked withMark
-mark-stays marks key other h = eq-eqb (bitOr marks (2 ^ placeOf other) / 2 ^ placeOf key % 2) 1 (bit-stays marks (2 ^ placeOf other) (placeOf key) (eqb-true (marks / 2 ^ placeOf key % 2) 1 h))
+mark-stays marks place other h = eq-eqb (bitOr marks (2 ^ other) / 2 ^ place % 2) 1 (bit-stays marks (2 ^ other) place (eqb-true (marks / 2 ^ place % 2) 1 h))
 
-pub mark-comes : (marks : ℕ) (key : List ℕ) → isMarked (withMark marks key) key ≡ true
+pub mark-comes : (marks place : ℕ) → isMarked (withMark marks place) place ≡ true
 unfolding isMarked withMark
-mark-comes marks key = eq-eqb (bitOr marks (2 ^ placeOf key) / 2 ^ placeOf key % 2) 1 (bit-comes marks (placeOf key))
+mark-comes marks place = eq-eqb (bitOr marks (2 ^ place) / 2 ^ place % 2) 1 (bit-comes marks place)

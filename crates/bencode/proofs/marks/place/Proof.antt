@@ -13,34 +13,15 @@ byte-at-requires c κs = search needs
 wide-requires : tie.Need-wide-requires
 wide-requires c κs = search needs
 
-byte-at-requires-2 : tie.Need-byte-at-requires-2
-byte-at-requires-2 c κs = search needs
-
-wide-requires-2 : tie.Need-wide-requires-2
-wide-requires-2 c κs = search needs
+mul-result : tie.Need-mul-result
+mul-result c = search needs
 
 add-result : tie.Need-add-result
 add-result c = search needs
 
-mul-result : tie.Need-mul-result
-mul-result c = search needs
-
-add-result-2 : tie.Need-add-result-2
-add-result-2 c = search needs
-
 returns : tie.Need-returns
 unfolding placeOf
-returns c = (rw (c .before .before .wide .ensures, c .before .before .before .byte-at .ensures, c .wide2 .ensures, c .before .byte-at2 .ensures) refl, omega arith)
+returns c = (rw (c .wide .ensures, c .before .byte-at .ensures) refl, omega arith)
 
 pub place-spec : {M : Type 1} → statement M
-place-spec =
-    tie.close
-    (tie.spec
-    byte-at-requires
-    wide-requires
-    byte-at-requires-2
-    wide-requires-2
-    add-result
-    mul-result
-    add-result-2
-    returns)
+place-spec = tie.close (tie.spec byte-at-requires wide-requires mul-result add-result returns)
