@@ -1,9 +1,9 @@
 //! Compares the proved reader and writers with those in ordinary Rust: the same answers, and the same buffers.
 
 use crate::bogsilver::{self, Answer, Given, WriteAnswer};
-use crate::frame_reader::{self, KEYS};
-use crate::frame_writer;
-use crate::random::{self, Random};
+use crate::random::Random;
+use crate::random_frames::{self, edge};
+use crate::{frame_reader, frame_writer};
 
 const RANDOM_FRAMES: usize = 2_000_000;
 const RANDOM_WRITES: usize = 1_000_000;
@@ -30,22 +30,6 @@ const SAMPLES: &[(&str, u8, usize, usize)] = &[
     ("0000000Fl4:porti65535ee", 0, 0, 23),
 ];
 
-/// Numbers at the edges of the limits.
-const EDGES: [i64; 12] = [
-    0,
-    1,
-    2,
-    -1,
-    65_535,
-    65_536,
-    2_147_483_647,
-    2_147_483_648,
-    4_294_967_295,
-    i64::MAX,
-    i64::MIN,
-    -2_147_483_649,
-];
-
 pub fn run() {
     let mut answers = [0_u64; 256];
     let mut random = Random(362_436_069_362_436_069);
@@ -57,7 +41,7 @@ pub fn run() {
     }
     let mut frame = Vec::new();
     for _ in 0..RANDOM_FRAMES {
-        random_frame(&mut random, &mut frame);
+        random_frames::frame(&mut random, &mut frame);
         read(&frame, &mut answers);
     }
     println!("{RANDOM_FRAMES} frames read: no difference");
@@ -84,98 +68,10 @@ fn read(frame: &[u8], answers: &mut [u64; 256]) {
     answers[usize::from(found.code)] += 1;
 }
 
-/// A frame, often of a message or a handshake, with a header that is mostly right.
-fn random_frame(random: &mut Random, out: &mut Vec<u8>) {
-    let mut payload = Vec::new();
-    match random.below(8) {
-        0 => random::payload(random, &mut payload),
-        1 => random_handshake(random, &mut payload),
-        _ => random_message(random, &mut payload),
-    }
-    let length = match random.below(24) {
-        0 => payload.len() + 1,
-        1 => random.below(1 << 32),
-        2 => payload.len().saturating_sub(1),
-        _ => payload.len(),
-    };
-    out.clear();
-    let header = match random.below(2) {
-        0 => format!("{length:08x}"),
-        _ => format!("{length:08X}"),
-    };
-    out.extend_from_slice(header.as_bytes());
-    if random.below(24) == 0 {
-        out[random.below(8)] = random.byte(b"gG/:@`\x00\xff");
-    }
-    out.extend_from_slice(&payload);
-    match random.below(16) {
-        0 => out.truncate(random.below(out.len() + 1)),
-        1 => out.extend_from_slice(b"0000"),
-        _ => {}
-    }
-}
-
-fn random_message(random: &mut Random, out: &mut Vec<u8>) {
-    let key = match random.below(16) {
-        0 => "unlisted",
-        _ => KEYS[random.below(KEYS.len())].0,
-    };
-    out.extend_from_slice(format!("l{}:{key}", key.len()).as_bytes());
-    match random.below(4) {
-        0 => {
-            let levels = random.below(4);
-            random::value(random, levels, out);
-        }
-        1 => out.extend_from_slice(format!("i{}e", edge(random)).as_bytes()),
-        2 => random_list(random, out),
-        _ => out.extend_from_slice(b"4:text"),
-    }
-    match random.below(4) {
-        0 => out.extend_from_slice(format!("i{}e", edge(random)).as_bytes()),
-        1 => out.extend_from_slice(b"i15e"),
-        _ => {}
-    }
-    out.push(b'e');
-}
-
-/// A list of IDs, strings or torrents, some with an item of another kind.
-fn random_list(random: &mut Random, out: &mut Vec<u8>) {
-    let kind = random.below(3);
-    out.push(b'l');
-    for _ in 0..random.below(5) {
-        let other = random.below(24) == 0;
-        let item = match if other { random.below(3) } else { kind } {
-            0 => format!("i{}e", 1 + random.below(1 << 31)),
-            1 => "2:id".to_string(),
-            _ => format!("d4:name1:x2:idi{}ee", random.below(1 << 31)),
-        };
-        out.extend_from_slice(item.as_bytes());
-    }
-    out.push(b'e');
-}
-
-fn random_handshake(random: &mut Random, out: &mut Vec<u8>) {
-    let (min, max) = (edge(random), edge(random));
-    let text = match random.below(4) {
-        0 => format!("d7:versioni{min}ee"),
-        1 => format!("d5:label1:x7:versiond3:maxi{max}e3:mini{min}eee"),
-        2 => format!("d7:versiond3:mini{min}e3:min0:ee"),
-        _ => format!("d7:versiond3:mini{min}e3:maxi{max}e1:xleee"),
-    };
-    out.extend_from_slice(text.as_bytes());
-}
-
-fn edge(random: &mut Random) -> i64 {
-    match random.below(2) {
-        0 => EDGES[random.below(EDGES.len())],
-        _ => 1 + random.below(9) as i64,
-    }
-}
-
 /// One message through both writers: the answer and the whole buffer.
 fn write(random: &mut Random, answers: &mut [u64; 256]) {
     let mut list = Vec::new();
-    random_list(random, &mut list);
+    random_frames::any_list(random, &mut list);
     if random.below(8) == 0 {
         list[0] = random.byte(b"lide0");
     }

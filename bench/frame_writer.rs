@@ -4,7 +4,8 @@
 use std::io::{self, Write};
 
 use crate::bogsilver::{Given, WriteAnswer, HEADER_LENGTH};
-use crate::frame_reader::{integer_fits, Format, KEYS, LARGEST_NUMBER, LARGEST_PAYLOAD};
+use crate::frame_keys::{integer_fits, Format, KEYS, LARGEST_NUMBER};
+use crate::frame_reader::LARGEST_PAYLOAD;
 
 /// Keys that are read only.
 const NOT_WRITTEN: [usize; 4] = [0, 8, 10, 17];

@@ -1,15 +1,26 @@
 //! Compares the proved payload walker, frame reader and frame writer with ones in ordinary Rust, in their answers and in
 //! their time.
 
+mod beside;
+mod beside_shapes;
 #[path = "../include/bogsilver.rs"]
 mod bogsilver;
+mod classes;
 mod compare;
+mod dictionary_keys;
 mod frame_compare;
+mod frame_judge;
+mod frame_keys;
 mod frame_reader;
 mod frame_shapes;
 mod frame_time;
 mod frame_writer;
+mod key;
+mod key_set;
 mod random;
+mod random_frames;
+mod random_keys;
+mod scalars;
 mod shapes;
 mod time;
 mod walker;
@@ -35,8 +46,9 @@ fn main() {
                 time::run();
                 frame_time::run();
             }
+            "beside" => beside::run(),
             _ => {
-                eprintln!("usage: bench/run.sh [compare] [time]");
+                eprintln!("usage: bench/run.sh [compare] [time] [beside]");
                 std::process::exit(2);
             }
         }

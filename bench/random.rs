@@ -1,5 +1,7 @@
 //! Random payloads, the same in each run.
 
+use crate::random_keys;
+
 /// A xorshift generator.
 pub struct Random(pub u64);
 
@@ -80,7 +82,8 @@ pub fn payload(random: &mut Random, out: &mut Vec<u8>) {
     match random.below(16) {
         0 => soup(random, out),
         1 => deep(random, out),
-        2 => many_keys(random, out),
+        2 => random_keys::many(random, out),
+        3 => random_keys::alike(random, out),
         _ => {
             let levels = random.below(6);
             value(random, levels, out);
@@ -134,35 +137,6 @@ fn deep(random: &mut Random, out: &mut Vec<u8>) {
     out.resize(out.len() + levels, b'e');
 }
 
-/// A dictionary with many keys: rising, falling or in no order, some of them repeated.
-fn many_keys(random: &mut Random, out: &mut Vec<u8>) {
-    let prefix = random.pick(&["", "a", "key-with-a-long-prefix-"]);
-    let mut keys: Vec<String> = (0..random.below(60))
-        .map(|i| format!("{prefix}{i}"))
-        .collect();
-    keys.sort();
-    match random.below(4) {
-        0 => {}
-        1 => keys.reverse(),
-        2 => random.shuffle(&mut keys),
-        _ => {
-            let half = keys.len() / 2;
-            random.shuffle(&mut keys[half..]);
-        }
-    }
-    if random.below(2) == 0 && !keys.is_empty() {
-        let again = keys[random.below(keys.len())].clone();
-        keys.insert(random.below(keys.len() + 1), again);
-    }
-    out.push(b'd');
-    for key in keys {
-        out.extend_from_slice(format!("{}:{key}", key.len()).as_bytes());
-        let levels = random.below(3);
-        value(random, levels, out);
-    }
-    out.push(b'e');
-}
-
 /// A value with at most so many levels: nearly always a good one.
 pub fn value(random: &mut Random, levels: usize, out: &mut Vec<u8>) {
     match random.below(if levels == 0 { 2 } else { 5 }) {
@@ -188,9 +162,19 @@ fn integer(random: &mut Random, out: &mut Vec<u8>) {
     let text = match random.below(24) {
         0 => random.pick(NUMERALS).to_string(),
         1..=3 => (random.next() as i64).to_string(),
+        4 => numeral(random),
         _ => (random.below(2000) as i64 - 1000).to_string(),
     };
     out.extend_from_slice(format!("i{text}e").as_bytes());
+}
+
+/// 1 to 22 digits, some with a minus; few with a leading zero.
+fn numeral(random: &mut Random) -> String {
+    let mut text = random.pick(&["", "", "-"]).to_string();
+    for _ in 0..1 + random.below(22) {
+        text.push(char::from(random.byte(b"1234567899990")));
+    }
+    text
 }
 
 fn string(random: &mut Random, out: &mut Vec<u8>) {

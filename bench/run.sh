@@ -1,11 +1,26 @@
 #!/bin/sh
 # Compares and times the proved payload walker, frame reader and frame writer against those in ordinary Rust beside it.
-# Usage: bench/run.sh [compare] [time]; with no argument both.
+# Usage: [BEFORE=FILE.a] bench/run.sh [compare] [time] [beside]; with no argument compare and time.
+# beside: the frame readers in one table, with libtorrent's bdecode where it is installed (Debian: g++ and
+# libtorrent-rasterbar-dev), and with the earlier build of the library that BEFORE names.
 set -eu
 cd "$(dirname "$0")/.."
 
 library=$(tools/library.sh)
-mkdir -p target/bench
-rustc --edition 2021 -C opt-level=3 -C codegen-units=1 --crate-name bench bench/main.rs \
-    -C "link-arg=$library" -o target/bench/bench
-exec target/bench/bench "$@"
+out=target/bench
+mkdir -p "$out"
+flags=
+if echo '#include <libtorrent/bdecode.hpp>' | g++ -std=c++17 -fsyntax-only -x c++ - 2>/dev/null; then
+    g++ -std=c++17 -O3 -c bench/libtorrent.cpp -o "$out/libtorrent.o"
+    flags="--cfg libtorrent -C link-arg=$out/libtorrent.o -C link-arg=-ltorrent-rasterbar -C link-arg=-lstdc++"
+fi
+if [ -n "${BEFORE:-}" ]; then
+    # Two builds can be linked where they share no name.
+    objcopy --redefine-sym bogsilver_read=before_read --keep-global-symbol=before_read "$BEFORE" "$out/before.a"
+    flags="$flags --cfg before -C link-arg=$out/before.a"
+fi
+# The flags are words, and no path among them has a space.
+# shellcheck disable=SC2086
+rustc --edition 2021 -C opt-level=3 -C codegen-units=1 --check-cfg 'cfg(libtorrent, before)' --crate-name bench \
+    bench/main.rs -C "link-arg=$library" $flags -o "$out/bench"
+exec "$out/bench" "$@"

@@ -21,7 +21,7 @@ pub fn fill(
     out
 }
 
-fn text(text: &str) -> String {
+pub fn text(text: &str) -> String {
     format!("{}:{text}", text.len())
 }
 
@@ -63,7 +63,7 @@ fn torrent(random: &mut Random, i: usize) -> Vec<(&'static str, String)> {
     ]
 }
 
-fn dictionary(entries: &[(&str, String)]) -> String {
+pub fn dictionary(entries: &[(&str, String)]) -> String {
     let body: String = entries
         .iter()
         .map(|(key, value)| text(key) + value)

@@ -5,8 +5,9 @@ use std::time::{Duration, Instant};
 
 use crate::{bogsilver, proved, shapes, walker};
 
-/// A sample is at least so long, by repeating the call, so that the clock's step does not count.
-const SAMPLE: Duration = Duration::from_micros(50);
+/// A sample is at least so long, by repeating the call, so that neither the clock's step counts nor what the other sides left
+/// in the caches.
+const SAMPLE: Duration = Duration::from_micros(300);
 
 /// How long one payload is measured, and how many samples are taken at least and at most.
 const BUDGET: Duration = Duration::from_millis(600);
@@ -62,28 +63,30 @@ pub fn print_title(what: &str) {
 }
 
 /// Measures both and prints their times in microseconds, with the ratio.
-pub fn print_ratio(name: &str, bytes: usize, proved: impl FnMut(), rust: impl FnMut()) {
-    let (proved, rust) = measure(proved, rust);
+pub fn print_ratio(name: &str, bytes: usize, mut proved: impl FnMut(), mut rust: impl FnMut()) {
+    let times = measure(&mut [&mut proved, &mut rust]);
+    let (proved, rust) = (times[0], times[1]);
     let ratio = proved / rust;
     println!("{name:36} {bytes:6} {proved:11.2} {rust:11.2} {ratio:9.2}");
 }
 
-/// The medians of both in microseconds; the samples of the two alternate.
-fn measure(mut proved: impl FnMut(), mut rust: impl FnMut()) -> (f64, f64) {
-    let (proved_calls, rust_calls) = (calls(&mut proved), calls(&mut rust));
-    let (mut proved_times, mut rust_times) = (Vec::new(), Vec::new());
+/// The median of each side in microseconds; the samples of the sides alternate.
+pub fn measure(sides: &mut [&mut dyn FnMut()]) -> Vec<f64> {
+    let calls: Vec<u32> = sides.iter_mut().map(|side| calls(side)).collect();
+    let mut times = vec![Vec::new(); sides.len()];
     let start = Instant::now();
-    while proved_times.len() < *SAMPLES.start()
-        || (start.elapsed() < BUDGET && proved_times.len() < *SAMPLES.end())
+    while times[0].len() < *SAMPLES.start()
+        || (start.elapsed() < BUDGET && times[0].len() < *SAMPLES.end())
     {
-        proved_times.push(sample(proved_calls, &mut proved));
-        rust_times.push(sample(rust_calls, &mut rust));
+        for (side, call) in sides.iter_mut().enumerate() {
+            times[side].push(sample(calls[side], call));
+        }
     }
-    (median(proved_times), median(rust_times))
+    times.into_iter().map(median).collect()
 }
 
 /// How many calls make a sample long enough.
-fn calls(call: &mut impl FnMut()) -> u32 {
+fn calls(call: &mut dyn FnMut()) -> u32 {
     let mut calls = 1;
     while sample(calls, call) * f64::from(calls) < SAMPLE.as_secs_f64() * 1e6 {
         calls *= 2;
@@ -92,7 +95,7 @@ fn calls(call: &mut impl FnMut()) -> u32 {
 }
 
 /// Microseconds for one call.
-fn sample(calls: u32, call: &mut impl FnMut()) -> f64 {
+fn sample(calls: u32, call: &mut dyn FnMut()) -> f64 {
     let start = Instant::now();
     (0..calls).for_each(|_| call());
     start.elapsed().as_secs_f64() * 1e6 / f64::from(calls)

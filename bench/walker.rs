@@ -1,10 +1,13 @@
 //! A bencode payload walker in ordinary Rust, written from the rules of the format.
 //! It is what the proved walker is compared with, in its answers and in its time.
 
-use std::collections::HashSet;
+use crate::classes::{class, first_class, Class};
+use crate::dictionary_keys::{Added, Kept, Keys};
+use crate::key::Key;
+use crate::scalars;
 
 /// How many lists and dictionaries may stand in each other.
-const MAX_DEPTH: usize = 16;
+pub const MAX_DEPTH: usize = 16;
 
 /// Codes of the faults.
 const SYNTAX: u8 = 5;
@@ -14,158 +17,173 @@ const REPEATED_KEY: u8 = 8;
 const TRAILING: u8 = 9;
 const UNSORTED_KEY: u8 = 11;
 
-/// A fault's code and offset.
-type Fault = (u8, usize);
-
 /// Walks a payload: code 0 and its length if it is accepted, else the first fault's code and offset.
 #[inline(never)]
 pub fn walk(payload: &[u8], strict: bool) -> (u8, usize) {
-    let mut walker = Walker {
-        bytes: payload,
-        at: 0,
-        strict,
-        rising: Vec::new(),
-    };
-    match walker.value(MAX_DEPTH) {
-        Err(fault) => fault,
-        Ok(()) if walker.at < payload.len() => (TRAILING, walker.at),
-        Ok(()) => (0, walker.at),
+    let mut walker = Walker::new(payload, strict);
+    match walker.value(payload, MAX_DEPTH, 0) {
+        None => walker.fault,
+        Some([]) => (0, payload.len()),
+        Some(rest) => (TRAILING, walker.offset(rest)),
     }
 }
 
-struct Walker<'a> {
-    bytes: &'a [u8],
-    /// The offset of the next byte; never past the payload's end.
-    at: usize,
+/// Its methods take the payload from a place on, and give what is after the thing that they are named for; none is a fault.
+pub struct Walker<'a> {
+    payload: &'a [u8],
     strict: bool,
-    /// The keys of the open dictionaries, outermost first, each as long as its keys rise.
-    rising: Vec<&'a [u8]>,
+    /// Code and offset.
+    fault: (u8, usize),
+    /// The keys of the open dictionaries, outermost first.
+    kept: Kept<'a>,
 }
 
 impl<'a> Walker<'a> {
-    fn peek(&self) -> Option<u8> {
-        self.bytes.get(self.at).copied()
-    }
-
-    /// The next byte cannot stand there, or there is none.
-    fn syntax<T>(&self) -> Result<T, Fault> {
-        Err((SYNTAX, self.at))
-    }
-
-    fn expect(&mut self, byte: u8) -> Result<(), Fault> {
-        if self.peek() != Some(byte) {
-            return self.syntax();
-        }
-        self.at += 1;
-        Ok(())
-    }
-
-    /// `levels` is how many more lists and dictionaries may be opened.
-    fn value(&mut self, levels: usize) -> Result<(), Fault> {
-        match self.peek() {
-            Some(b'i') => self.integer(),
-            Some(b'l' | b'd') if levels == 0 => Err((DEPTH, self.at)),
-            Some(b'l') => self.list(levels - 1),
-            Some(b'd') => self.dictionary(levels - 1),
-            _ => self.string().map(|_| ()),
+    #[inline(always)]
+    pub fn new(payload: &'a [u8], strict: bool) -> Self {
+        Walker {
+            payload,
+            strict,
+            fault: (0, 0),
+            kept: Kept::default(),
         }
     }
 
-    /// Decimal digits with no leading zero; a number past 64 bits is given as the largest of 64 bits.
-    fn number(&mut self) -> Result<u64, Fault> {
-        match self.peek() {
-            Some(b'0') => {
-                self.at += 1;
-                return Ok(0);
+    fn offset(&self, rest: &[u8]) -> usize {
+        self.payload.len() - rest.len()
+    }
+
+    #[cold]
+    #[inline(never)]
+    fn refuse(&mut self, code: u8, at: &[u8]) -> Option<&'a [u8]> {
+        self.fault = (code, self.offset(at));
+        None
+    }
+
+    /// `levels` is how many more lists and dictionaries may be opened, and `used` how many keys are kept.
+    #[inline(always)]
+    pub fn value(&mut self, rest: &'a [u8], levels: usize, used: usize) -> Option<&'a [u8]> {
+        match first_class(rest) {
+            Class::Digit => match scalars::string(rest) {
+                Some((_, after)) => Some(after),
+                None => self.string_fault(rest),
+            },
+            Class::Integer => match scalars::integer(rest) {
+                Some(after) => Some(after),
+                None => self.odd_integer(rest),
+            },
+            Class::List | Class::Dictionary => self.nested(rest, levels, used),
+            _ => self.refuse(SYNTAX, rest),
+        }
+    }
+
+    #[inline(never)]
+    fn nested(&mut self, rest: &'a [u8], levels: usize, used: usize) -> Option<&'a [u8]> {
+        if levels == 0 {
+            return self.refuse(DEPTH, rest);
+        }
+        match first_class(rest) {
+            Class::List => self.list(&rest[1..], levels - 1, used),
+            _ => self.dictionary::<false>(&rest[1..], levels - 1, used),
+        }
+    }
+
+    #[inline(always)]
+    fn list(&mut self, mut rest: &'a [u8], levels: usize, used: usize) -> Option<&'a [u8]> {
+        while first_class(rest) != Class::End {
+            rest = self.value(rest, levels, used)?;
+        }
+        Some(&rest[1..])
+    }
+
+    /// A torrent of a message's torrent list; none also where its `id` is missing or no torrent ID.
+    #[inline(always)]
+    pub fn torrent(&mut self, rest: &'a [u8]) -> Option<&'a [u8]> {
+        let first = scalars::after(Class::Dictionary, rest)?;
+        self.dictionary::<true>(first, MAX_DEPTH - 3, 0)
+    }
+
+    #[inline(always)]
+    fn dictionary<const TORRENT: bool>(
+        &mut self,
+        first: &'a [u8],
+        levels: usize,
+        used: usize,
+    ) -> Option<&'a [u8]> {
+        let mut keys = Keys::new(first, used);
+        let mut identified = false;
+        let mut rest = first;
+        while first_class(rest) != Class::End {
+            let Some((length, text)) = scalars::length(rest) else {
+                return self.string_fault(rest);
+            };
+            let key = Key::new(text, length);
+            let value = &text[length..];
+            match keys.add(key, rest, &mut self.kept) {
+                Added::Rising => {}
+                Added::Unsorted if !self.strict => {}
+                Added::Unsorted => return self.refuse(UNSORTED_KEY, rest),
+                Added::Repeated => return self.refuse(REPEATED_KEY, rest),
             }
-            Some(b'1'..=b'9') => {}
-            _ => return self.syntax(),
+            if TORRENT && key.head == Key::head_of(b"id") {
+                rest = scalars::id(value)?;
+                identified = true;
+            } else {
+                rest = self.value(value, levels, keys.inner())?;
+            }
         }
-        let mut number: u64 = 0;
-        while let Some(digit @ b'0'..=b'9') = self.peek() {
-            number = number
-                .saturating_mul(10)
-                .saturating_add(u64::from(digit - b'0'));
-            self.at += 1;
-        }
-        Ok(number)
+        (!TORRENT || identified).then_some(&rest[1..])
     }
 
-    fn integer(&mut self) -> Result<(), Fault> {
-        let start = self.at;
-        self.at += 1;
+    /// An integer by the rules, one by one.
+    #[cold]
+    #[inline(never)]
+    fn odd_integer(&mut self, start: &'a [u8]) -> Option<&'a [u8]> {
+        let mut rest = &start[1..];
         let mut largest = i64::MAX as u64;
-        if self.peek() == Some(b'-') {
-            self.at += 1;
-            if self.peek() == Some(b'0') {
-                return self.syntax();
+        if first_class(rest) == Class::Minus {
+            rest = &rest[1..];
+            if rest.first() == Some(&b'0') {
+                return self.refuse(SYNTAX, rest);
             }
             largest = i64::MIN.unsigned_abs();
         }
-        let magnitude = self.number()?;
-        self.expect(b'e')?;
-        if magnitude > largest {
-            return Err((RANGE, start));
+        let (magnitude, rest) = self.number(rest)?;
+        match scalars::after(Class::End, rest) {
+            None => self.refuse(SYNTAX, rest),
+            Some(_) if magnitude > largest => self.refuse(RANGE, start),
+            after => after,
         }
-        Ok(())
     }
 
-    fn string(&mut self) -> Result<&'a [u8], Fault> {
-        let length = self.number()?;
-        self.expect(b':')?;
-        let rest = &self.bytes[self.at..];
-        if length > rest.len() as u64 {
-            return Err((SYNTAX, self.bytes.len()));
+    /// Of a string whose length has no good form, or is beyond the payload.
+    #[cold]
+    #[inline(never)]
+    fn string_fault(&mut self, rest: &'a [u8]) -> Option<&'a [u8]> {
+        let (_, rest) = self.number(rest)?;
+        match first_class(rest) {
+            Class::Colon => self.refuse(SYNTAX, &[]),
+            _ => self.refuse(SYNTAX, rest),
         }
-        self.at += length as usize;
-        Ok(&rest[..length as usize])
     }
 
-    fn list(&mut self, levels: usize) -> Result<(), Fault> {
-        self.at += 1;
-        while self.peek() != Some(b'e') {
-            self.value(levels)?;
+    /// Decimal digits with no leading zero, and what is after them; a number past 64 bits is given as the largest of 64 bits.
+    fn number(&mut self, rest: &'a [u8]) -> Option<(u64, &'a [u8])> {
+        if rest.first() == Some(&b'0') {
+            return Some((0, &rest[1..]));
         }
-        self.at += 1;
-        Ok(())
-    }
-
-    fn dictionary(&mut self, levels: usize) -> Result<(), Fault> {
-        self.at += 1;
-        let base = self.rising.len();
-        let mut unsorted = None;
-        while self.peek() != Some(b'e') {
-            let start = self.at;
-            let key = self.string()?;
-            self.check_key(key, base, &mut unsorted)
-                .map_err(|code| (code, start))?;
-            self.value(levels)?;
+        let mut number: u64 = 0;
+        let mut count = 0;
+        while let Some(&digit) = rest.get(count).filter(|byte| class(**byte) == Class::Digit) {
+            number = number
+                .saturating_mul(10)
+                .saturating_add(u64::from(digit - b'0'));
+            count += 1;
         }
-        self.rising.truncate(base);
-        self.at += 1;
-        Ok(())
-    }
-
-    /// Rising keys are kept in `rising` from `base` on; the first that does not rise moves all into a set.
-    fn check_key(
-        &mut self,
-        key: &'a [u8],
-        base: usize,
-        unsorted: &mut Option<HashSet<&'a [u8]>>,
-    ) -> Result<(), u8> {
-        if unsorted.is_none() {
-            let earlier = &self.rising[base..];
-            if earlier.last().is_none_or(|last| *last < key) {
-                self.rising.push(key);
-                return Ok(());
-            }
-            *unsorted = Some(earlier.iter().copied().collect());
+        if count == 0 {
+            self.refuse(SYNTAX, rest);
+            return None;
         }
-        let fresh = unsorted.as_mut().is_some_and(|keys| keys.insert(key));
-        match (fresh, self.strict) {
-            (false, _) => Err(REPEATED_KEY),
-            (true, true) => Err(UNSORTED_KEY),
-            (true, false) => Ok(()),
-        }
+        Some((number, &rest[count..]))
     }
 }
