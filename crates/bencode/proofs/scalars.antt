@@ -3,3 +3,4 @@ pub mod SignedLaws
 pub mod IntegerLaws
 pub mod PositiveLaws
 pub mod StringLaws
+pub mod ShortStringLaws

@@ -14,6 +14,7 @@ mod profile;
 mod put;
 mod records;
 mod scalar;
+mod short_strings;
 mod skip;
 mod strings;
 mod walk;

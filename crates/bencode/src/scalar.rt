@@ -5,6 +5,7 @@ ghost use Rattle.bencode.specs.Scalar.{scalarAt};
 use super::fault::Walk;
 use super::integers::after_integer;
 use super::integers::integer_end;
+use super::short_strings::short_string;
 use super::strings::after_string;
 use super::strings::string_end;
 use octets::byte_at;
@@ -25,6 +26,11 @@ pub fn after_scalar(s: &[u8], at: usize) -> usize
 {
     if byte_at(s, at) == b'i' {
         return after_integer(s, at);
+    }
+    let p = short_string(s, at);
+    let end = p.end;
+    if end != 0 {
+        return end;
     }
     after_string(s, at)
 }
