@@ -26,7 +26,7 @@ use super::records::noted_key;
 use super::scalar::after_scalar;
 use super::scalar::scalar_end;
 use super::strings::Text;
-use super::strings::string;
+use super::strings::key_string;
 use super::strings::string_end;
 
 // The offset after the value at an offset, which stands at a depth.
@@ -101,7 +101,7 @@ pub fn dictionary(
         if class_at(classes, s, at) == b'e' {
             return noted_end(at + 1, found);
         }
-        let Text::Bytes { start, end } = string(s, at) else {
+        let Text::Bytes { start, end } = key_string(s, at) else {
             return noted_key(string_end(s, at));
         };
         match check_key(s, seen, at, start, end, profile) {

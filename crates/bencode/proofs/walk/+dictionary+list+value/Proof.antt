@@ -50,7 +50,7 @@ use Rattle.bencode.proofs.records.noted_end.Reads as noted-end-reads
 use Rattle.bencode.proofs.records.noted_key.Reads as noted-key-reads
 use Rattle.bencode.proofs.scalar.after_scalar.Reads as after-scalar-reads
 use Rattle.bencode.proofs.scalar.scalar_end.Reads as scalar-end-reads
-use Rattle.bencode.proofs.strings.string.Reads as string-reads
+use Rattle.bencode.proofs.strings.key_string.Reads as key-string-reads
 use Rattle.bencode.proofs.strings.string_end.Reads as string-end-reads
 use Rattle.bencode.proofs.walk.+dictionary+list+value.{statement}
 use Rattle.bencode.proofs.walk.+dictionary+list+value.Tie.{close}
@@ -86,7 +86,7 @@ value-below t = and 2 value-kinds.ps (falls 2 value-kinds.ps _<_ μ-value t) val
 
 -- what each may ask and learn of the functions that it calls
 abbrev dictionary-calls : ℕ → dictionary-lts.Claims
-dictionary-calls t = (none-reads.Asked, none-reads.Learnt, class-at-reads.Asked, class-at-reads.Learnt, noted-end-reads.Asked, noted-end-reads.Learnt, string-reads.Asked, string-reads.Learnt, string-end-reads.Asked, string-end-reads.Learnt, noted-key-reads.Asked, noted-key-reads.Learnt, check-key-reads.Asked, check-key-reads.Learnt, found-after-reads.Asked, found-after-reads.Learnt, after-scalar-reads.Asked, after-scalar-reads.Learnt, value-below t, value.Post)
+dictionary-calls t = (none-reads.Asked, none-reads.Learnt, class-at-reads.Asked, class-at-reads.Learnt, noted-end-reads.Asked, noted-end-reads.Learnt, key-string-reads.Asked, key-string-reads.Learnt, string-end-reads.Asked, string-end-reads.Learnt, noted-key-reads.Asked, noted-key-reads.Learnt, check-key-reads.Asked, check-key-reads.Learnt, found-after-reads.Asked, found-after-reads.Learnt, after-scalar-reads.Asked, after-scalar-reads.Learnt, value-below t, value.Post)
 
 abbrev list-calls : ℕ → list-lts.Claims
 list-calls t = (class-at-reads.Asked, class-at-reads.Learnt, after-scalar-reads.Asked, after-scalar-reads.Learnt, value-below t, value.Post)
@@ -138,8 +138,8 @@ dictionary-returns t c =
     let e = class-is 101 refl (byteAt s (l .at)) (sym (c .before .before .class-at .ensures) ∙ c .before .if1 .taken) in
     c .noted-end .ensures ∙ noted-end (a .profile) levels s (a .key .now) (a .from) (l .at) (l .found) (l .inv .3) e (dictionary-end (a .profile) levels s (l .at) (l .inv .0) e ∙ l .inv .2)
 
-dictionary-string-requires : (t : ℕ) → dictionary-lts.Need-string-requires (dictionary-calls t) (dictionary-at t) dictionary.Post dictionary-Inv-loop dictionary-μ-loop
-dictionary-string-requires t c κs = tt
+dictionary-key-string-requires : (t : ℕ) → dictionary-lts.Need-key-string-requires (dictionary-calls t) (dictionary-at t) dictionary.Post dictionary-Inv-loop dictionary-μ-loop
+dictionary-key-string-requires t c κs = tt
 
 dictionary-enum-known-start : (t : ℕ) → dictionary-lts.Need-enum-known-start (dictionary-calls t) (dictionary-at t) dictionary.Post dictionary-Inv-loop dictionary-μ-loop
 dictionary-enum-known-start t c = search needs
@@ -161,7 +161,7 @@ dictionary-returns-2 t c =
     let l = c .before .before .before .before .before .before .before .loop in
     let more = class-is-not 101 refl (byteAt s (l .at)) (λ e. c .before .before .before .before .before .if1 .left (c .before .before .before .before .before .before .class-at .ensures ∙ e)) in
     let f = c .before .before .enum-told .given in
-    let text : stringAt s (l .at) ≡ Text.Fault (f .0 .0) = sym (c .before .before .before .before .string .ensures) ∙ f .1 in
+    let text : stringAt s (l .at) ≡ Text.Fault (f .0 .0) = sym (c .before .before .before .before .key-string .ensures) ∙ f .1 in
     c .noted-key .ensures ∙ ap (λ (w : Walk). notedOf w Entry.Missing) (c .before .string-end .ensures ∙ ap textEnd text) ∙ noted-fault (dictionaryAt (a .profile) levels s (a .from)) (entryAt s (a .key .now) (a .from)) (f .0 .0) (dictionary-no-key (a .profile) levels s (l .at) (l .inv .0) more (f .0 .0) text ∙ l .inv .2)
 
 dictionary-check-key-requires : (t : ℕ) → dictionary-lts.Need-check-key-requires (dictionary-calls t) (dictionary-at t) dictionary.Post dictionary-Inv-loop dictionary-μ-loop
@@ -171,7 +171,7 @@ dictionary-check-key-requires t c κs =
     let levels = levelsLeft (a .depth) in
     let l = c .before .before .before .before .before .before .loop in
     let k = c .before .start .given in
-    let text : stringAt s (l .at) ≡ Text.Bytes (k .0 .0) (k .0 .1 .0) = sym (c .before .before .before .string .ensures) ∙ k .1 in
+    let text : stringAt s (l .at) ≡ Text.Bytes (k .0 .0) (k .0 .1 .0) = sym (c .before .before .before .key-string .ensures) ∙ k .1 in
     let w = string-whole-inv s (l .at) (k .0 .0) (k .0 .1 .0) text in
     (w .ordered, w .within, l .inv .1 .ordered, l .inv .1 .within)
 
@@ -186,7 +186,7 @@ dictionary-returns-3 t c =
     let l = c .before .before .before .before .before .before .before .before .before .before .loop in
     let more = class-is-not 101 refl (byteAt s (l .at)) (λ e. c .before .before .before .before .before .before .before .before .if1 .left (c .before .before .before .before .before .before .before .before .before .class-at .ensures ∙ e)) in
     let k = c .before .before .before .before .before .start .given in
-    let text : stringAt s (l .at) ≡ Text.Bytes (k .0 .0) (k .0 .1 .0) = sym (c .before .before .before .before .before .before .before .string .ensures) ∙ k .1 in
+    let text : stringAt s (l .at) ≡ Text.Bytes (k .0 .0) (k .0 .1 .0) = sym (c .before .before .before .before .before .before .before .key-string .ensures) ∙ k .1 in
     let n = c .before .code .given in
     let no = key-refused (a .profile) levels s (l .seen) (l .at) (l .inv .0) (l .inv .1) (k .0 .0) (k .0 .1 .0) text (n .0 .0) (sym (c .before .before .before .check-key .ensures) ∙ n .1) in
     noted-fault (dictionaryAt (a .profile) levels s (a .from)) (entryAt s (a .key .now) (a .from)) (record { code = n .0 .0; offset = l .at }) (dictionary-refused (a .profile) levels s (l .at) (l .inv .0) more (k .0 .0) (k .0 .1 .0) text (n .0 .0) no ∙ l .inv .2)
@@ -201,7 +201,7 @@ dictionary-found-after-requires t c κs =
     let levels = levelsLeft (a .depth) in
     let l = c .before .before .before .before .before .before .before .before .before .before .loop in
     let k = c .before .before .before .before .before .start .given in
-    let text : stringAt s (l .at) ≡ Text.Bytes (k .0 .0) (k .0 .1 .0) = sym (c .before .before .before .before .before .before .before .string .ensures) ∙ k .1 in
+    let text : stringAt s (l .at) ≡ Text.Bytes (k .0 .0) (k .0 .1 .0) = sym (c .before .before .before .before .before .before .before .key-string .ensures) ∙ k .1 in
     let w = string-whole-inv s (l .at) (k .0 .0) (k .0 .1 .0) text in
     (w .ordered, w .within)
 
@@ -215,7 +215,7 @@ dictionary-loop-less t c =
     let levels = levelsLeft (a .depth) in
     let l = c .before .before .before .before .before .before .before .before .before .before .before .before .before .loop in
     let k = c .before .before .before .before .before .before .before .before .start .given in
-    let text : stringAt s (l .at) ≡ Text.Bytes (k .0 .0) (k .0 .1 .0) = sym (c .before .before .before .before .before .before .before .before .before .before .string .ensures) ∙ k .1 in
+    let text : stringAt s (l .at) ≡ Text.Bytes (k .0 .0) (k .0 .1 .0) = sym (c .before .before .before .before .before .before .before .before .before .before .key-string .ensures) ∙ k .1 in
     let v = scalar-value (a .profile) levels s (k .0 .1 .0) (c .before .after-scalar .result) (after-end (scalarAt s (k .0 .1 .0)) (c .before .after-scalar .result) (c .before .after-scalar .ensures) (c .if2 .taken)) in
     let w = string-whole-inv s (l .at) (k .0 .0) (k .0 .1 .0) text in
     omega (arith, value-ends (a .profile) levels s (k .0 .1 .0) (c .before .after-scalar .result) v)
@@ -228,7 +228,7 @@ dictionary-loop-again t c =
     let l = c .before .before .before .before .before .before .before .before .before .before .before .before .before .loop in
     let more = class-is-not 101 refl (byteAt s (l .at)) (λ e. c .before .before .before .before .before .before .before .before .before .before .before .if1 .left (c .before .before .before .before .before .before .before .before .before .before .before .before .class-at .ensures ∙ e)) in
     let k = c .before .before .before .before .before .before .before .before .start .given in
-    let text : stringAt s (l .at) ≡ Text.Bytes (k .0 .0) (k .0 .1 .0) = sym (c .before .before .before .before .before .before .before .before .before .before .string .ensures) ∙ k .1 in
+    let text : stringAt s (l .at) ≡ Text.Bytes (k .0 .0) (k .0 .1 .0) = sym (c .before .before .before .before .before .before .before .before .before .before .key-string .ensures) ∙ k .1 in
     let n = c .before .before .before .before .next .given in
     let ok = key-allowed (a .profile) levels s (l .seen) (l .at) (l .inv .0) (l .inv .1) (k .0 .0) (k .0 .1 .0) text (n .0 .0) (sym (c .before .before .before .before .before .before .check-key .ensures) ∙ n .1) in
     let v = scalar-value (a .profile) levels s (k .0 .1 .0) (c .before .after-scalar .result) (after-end (scalarAt s (k .0 .1 .0)) (c .before .after-scalar .result) (c .before .after-scalar .ensures) (c .if2 .taken)) in
@@ -252,7 +252,7 @@ dictionary-loop-less-2 t c =
     let levels = levelsLeft (a .depth) in
     let l = c .before .before .before .before .before .before .before .before .before .before .before .before .before .before .before .before .before .loop in
     let k = c .before .before .before .before .before .before .before .before .before .before .before .before .start .given in
-    let text : stringAt s (l .at) ≡ Text.Bytes (k .0 .0) (k .0 .1 .0) = sym (c .before .before .before .before .before .before .before .before .before .before .before .before .before .before .string .ensures) ∙ k .1 in
+    let text : stringAt s (l .at) ≡ Text.Bytes (k .0 .0) (k .0 .1 .0) = sym (c .before .before .before .before .before .before .before .before .before .before .before .before .before .before .key-string .ensures) ∙ k .1 in
     let v = sym (c .before .before .before .value .ensures) ∙ c .before .to .given .1 in
     let w = string-whole-inv s (l .at) (k .0 .0) (k .0 .1 .0) text in
     omega (arith, value-ends (a .profile) levels s (k .0 .1 .0) (c .before .to .given .0 .0) v)
@@ -265,7 +265,7 @@ dictionary-loop-again-2 t c =
     let l = c .before .before .before .before .before .before .before .before .before .before .before .before .before .before .before .before .before .loop in
     let more = class-is-not 101 refl (byteAt s (l .at)) (λ e. c .before .before .before .before .before .before .before .before .before .before .before .before .before .before .before .if1 .left (c .before .before .before .before .before .before .before .before .before .before .before .before .before .before .before .before .class-at .ensures ∙ e)) in
     let k = c .before .before .before .before .before .before .before .before .before .before .before .before .start .given in
-    let text : stringAt s (l .at) ≡ Text.Bytes (k .0 .0) (k .0 .1 .0) = sym (c .before .before .before .before .before .before .before .before .before .before .before .before .before .before .string .ensures) ∙ k .1 in
+    let text : stringAt s (l .at) ≡ Text.Bytes (k .0 .0) (k .0 .1 .0) = sym (c .before .before .before .before .before .before .before .before .before .before .before .before .before .before .key-string .ensures) ∙ k .1 in
     let n = c .before .before .before .before .before .before .before .before .next .given in
     let ok = key-allowed (a .profile) levels s (l .seen) (l .at) (l .inv .0) (l .inv .1) (k .0 .0) (k .0 .1 .0) text (n .0 .0) (sym (c .before .before .before .before .before .before .before .before .before .before .check-key .ensures) ∙ n .1) in
     let v = sym (c .before .before .before .value .ensures) ∙ c .before .to .given .1 in
@@ -287,7 +287,7 @@ dictionary-returns-4 t c =
     let l = c .before .before .before .before .before .before .before .before .before .before .before .before .before .before .before .before .before .loop in
     let more = class-is-not 101 refl (byteAt s (l .at)) (λ e. c .before .before .before .before .before .before .before .before .before .before .before .before .before .before .before .if1 .left (c .before .before .before .before .before .before .before .before .before .before .before .before .before .before .before .before .class-at .ensures ∙ e)) in
     let k = c .before .before .before .before .before .before .before .before .before .before .before .before .start .given in
-    let text : stringAt s (l .at) ≡ Text.Bytes (k .0 .0) (k .0 .1 .0) = sym (c .before .before .before .before .before .before .before .before .before .before .before .before .before .before .string .ensures) ∙ k .1 in
+    let text : stringAt s (l .at) ≡ Text.Bytes (k .0 .0) (k .0 .1 .0) = sym (c .before .before .before .before .before .before .before .before .before .before .before .before .before .before .key-string .ensures) ∙ k .1 in
     let n = c .before .before .before .before .before .before .before .before .next .given in
     let ok = key-allowed (a .profile) levels s (l .seen) (l .at) (l .inv .0) (l .inv .1) (k .0 .0) (k .0 .1 .0) text (n .0 .0) (sym (c .before .before .before .before .before .before .before .before .before .before .check-key .ensures) ∙ n .1) in
     noted-fault (dictionaryAt (a .profile) levels s (a .from)) (entryAt s (a .key .now) (a .from)) (c .before .f .given .0 .0) (dictionary-fault (a .profile) levels s (l .at) (l .inv .0) more (k .0 .0) (k .0 .1 .0) text (ok .0) (c .before .f .given .0 .0) (sym (c .before .before .before .value .ensures) ∙ c .before .f .given .1) ∙ l .inv .2)
@@ -490,7 +490,7 @@ pub +dictionary+list+value-spec : {M : Type 1} → statement M
     (dictionary-add-noted-end t)
     (dictionary-noted-end-requires t)
     (dictionary-returns t)
-    (dictionary-string-requires t)
+    (dictionary-key-string-requires t)
     (dictionary-enum-known-start t)
     (dictionary-enum-told t)
     (dictionary-string-end-requires t)
