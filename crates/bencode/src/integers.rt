@@ -1,17 +1,13 @@
 // Integers: `i`, a sign if it is negative, decimal digits and `e`, in the range of 64 bits.
 ghost use mathlib.Core.Path.{_≡_};
-ghost use mathlib.Core.Bool.{true};
-ghost use Prim.Native.Nat.{_+_, _^_, _≤_, _<_};
-ghost use lib.ListN.{length};
+ghost use Prim.Native.Nat.{_^_, _≤_};
 ghost use lib.IntN.{pos, negℤ, natAbs};
-ghost use Rattle.octets.specs.Bytes.{byteAt};
-ghost use Rattle.octets.specs.Numerals.{digitsAt};
-ghost use Rattle.bencode.specs.declared.integers.Number.{Number};
 ghost use Rattle.bencode.specs.Fault.{afterOf};
 ghost use Rattle.bencode.specs.Integers.{signed, inRange, integerFrom, integerAt, numberEnd, afterPositive};
 use super::fault::Fault;
 use super::fault::Walk;
-use octets::Decimal;
+use super::plain_integers::natural;
+use super::plain_integers::plain_end;
 use octets::byte_at;
 use octets::numeral;
 
@@ -122,97 +118,11 @@ pub fn integer_end(s: &[u8], at: usize) -> Walk
     }
 }
 
-// A byte as a number.
-fn wide(b: u8) -> u64
-    ensures { λ r. ⌜ r ≡ b ⌝ }
-{
-    b as u64
-}
-
-// At most this many digits are read at once: as many fit 63 bits, whatever they are.
-const FEW: usize = 18;
-
-// The digits from an offset on, up to FEW of them: no test whether the bytes end, or whether the number has room.
-fn few_digits(s: &[u8], from: usize) -> Decimal
-    requires { ⌜ from + 18 ≤ length (now s) ⌝ }
-    ensures { λ r. ⌜ (from ≤ r .end) × (r .end ≤ from + 18) × (r .number < 10 ^ 18) × (r .end < from + 18 → r ≡ digitsAt (now (s .entry)) from) ⌝ }
-{
-    let mut k: usize = 0;
-    let mut n: u64 = 0;
-    while k < FEW {
-        let b = s[from + k];
-        if b < b'0' {
-            return Decimal {
-                end: from + k,
-                number: n,
-            };
-        }
-        if b'9' < b {
-            return Decimal {
-                end: from + k,
-                number: n,
-            };
-        }
-        n = n * 10 + wide(b) - 48;
-        k += 1;
-    }
-    Decimal {
-        end: from + FEW,
-        number: n,
-    }
-}
-
-// Are digits that end at an offset a numeral: some, fewer than FEW, and no 0 before others.
-fn is_short(s: &[u8], from: usize, end: usize) -> bool
-    requires { ⌜ (from ≤ end) × (end ≤ from + 18) × (from + 18 ≤ length (now s)) ⌝ }
-    ensures { λ r. ⌜ (r ≡ true → (from < end) × (end < from + 18) × (byteAt (now (s .entry)) from ≡ 48 → end ≡ from + 1)) ⌝ }
-{
-    if end == from {
-        return false;
-    }
-    if end == from + FEW {
-        return false;
-    }
-    if end == from + 1 {
-        return true;
-    }
-    s[from] != b'0'
-}
-
-// The integer at an offset that has no sign: the offset after it, and its number. Where the offset is 0, this says nothing.
-fn natural(s: &[u8], at: usize) -> Decimal
-    ensures { λ r. ⌜ (0 < r .end → integerAt (now (s .entry)) at ≡ Number.Integer (pos (r .number)) (r .end)) ⌝ }
-{
-    if byte_at(s, at) != b'i' {
-        return Decimal { end: 0, number: 0 };
-    }
-    // near the end of the bytes `integer` is as good
-    let left = s.len() - at;
-    if left < 20 {
-        return Decimal { end: 0, number: 0 };
-    }
-    let from = at + 1;
-    let d = few_digits(s, from);
-    let end = d.end;
-    let number = d.number;
-    if s[end] != b'e' {
-        return Decimal { end: 0, number: 0 };
-    }
-    if !is_short(s, from, end) {
-        return Decimal { end: 0, number: 0 };
-    }
-    Decimal {
-        end: end + 1,
-        number,
-    }
-}
-
 // The offset after the integer at an offset, and 0 where there is none.
 pub fn after_integer(s: &[u8], at: usize) -> usize
     ensures { λ r. ⌜ r ≡ afterOf (numberEnd (integerAt (now (s .entry)) at)) ⌝ }
 {
-    let n = natural(s, at);
-    let end = n.end;
+    let end = plain_end(s, at);
     if end != 0 {
         return end;
     }

@@ -10,6 +10,7 @@ mod item;
 mod key;
 mod lists;
 mod marks;
+mod plain_integers;
 mod profile;
 mod put;
 mod records;

@@ -15,7 +15,8 @@ use Rattle.octets.specs.Bytes.{byteAt}
 use Rattle.octets.specs.Numerals.{digits, digitsAt, numeralAt, capped}
 use Rattle.octets.proofs.digits.NumeralLaws.{digits-below, digits-above, digits-more, numeral-zero, numeral-digits, capped-fits}
 use Rattle.bencode.specs.declared.integers.Number.{Number}
-use Rattle.bencode.specs.Integers.{integerAt}
+use Rattle.bencode.specs.declared.fault.Walk.{Walk}
+use Rattle.bencode.specs.Integers.{integerAt, numberEnd}
 use Rattle.bencode.proofs.scalars.IntegerLaws.{integer-natural}
 
 -- ---- after k digits with the number n: the digits left come to the same as all of them
@@ -64,6 +65,39 @@ module _ (s : List ℕ) (from : ℕ) where
           rest = rw (e, next) (sym (digits-more n (from + k) s low high)) ∙ f .rest;
         }
 
+-- ---- a reader that only counts the digits: some number goes with them, so that the laws above are its own too
+abbrev pub Counted : List ℕ → ℕ → ℕ → Type 0
+Counted s from k = (n : ℕ) × Few s from k n
+
+-- what it promises
+abbrev pub Ends : List ℕ → ℕ → ℕ → Type 0
+Ends s from r = (r ≡ digitsAt s from .end) × (digitsAt s from .number < 10 ^ 18)
+
+abbrev pub Read-end : List ℕ → ℕ → ℕ → Type 0
+Read-end s from r = (from ≤ r) × (r ≤ from + 18) × (r < from + 18 → Ends s from r)
+
+module _ (s : List ℕ) (from : ℕ) where
+  read-end : (d : Decimal) → Read s from d → Read-end s from (d .end)
+  read-end d (low, high, below, is) = (low, high, λ l. (ap (λ (e : Decimal). e .end) (is l), rw (is l) at below))
+
+  pub counted-none : Counted s from 0
+  counted-none = (0, few-none s from)
+
+  pub counted-all : (k : ℕ) → Counted s from k → 18 ≤ k → Read-end s from (from + 18)
+  counted-all k (n, f) h = read-end (record { end = from + 18; number = n }) (few-all s from k n f h)
+
+  module _ (k : ℕ) (f : Counted s from k) (h : k < 18) where
+    pub counted-low : byteAt s (from + k) < 48 → Read-end s from (from + k)
+    counted-low l = read-end (record { end = from + k; number = f .0 }) (few-low s from k (f .0) (f .1) h l)
+
+    pub counted-high : 57 < byteAt s (from + k) → Read-end s from (from + k)
+    counted-high l = read-end (record { end = from + k; number = f .0 }) (few-high s from k (f .0) (f .1) h l)
+
+    pub counted-more : 48 ≤ byteAt s (from + k) → byteAt s (from + k) ≤ 57 → Counted s from (k + 1)
+    counted-more low high =
+        let m = f .0 * 10 + (byteAt s (from + k) - 48) in
+        (m, few-more s from k (f .0) (f .1) h low high m refl)
+
 -- ---- an integer of few digits and no sign: its digits are a numeral where a first 0 is the only one
 module _ (s : List ℕ) (at : ℕ) (d : Decimal) (is : d ≡ digitsAt s (at + 1)) (e : byteAt s (d .end) ≡ 101) where
   few-numeral : (byteAt s (at + 1) ≡ 48 → d .end ≡ at + 1 + 1) → d ≡ numeralAt s (at + 1)
@@ -86,3 +120,9 @@ module _ (s : List ℕ) (at : ℕ) (d : Decimal) (is : d ≡ digitsAt s (at + 1)
       integer-natural s at d
       (capped-fits (d .number) (d .end) (omega (arith, h)) ∙ ap capped (few-numeral only))
       i (λ z. omega (arith, z, some)) e (omega (arith, h))
+
+-- the same by the offset after the digits
+pub few-plain : (s : List ℕ) (at end : ℕ) → Ends s (at + 1) end → byteAt s end ≡ 101 → byteAt s at ≡ 105 → at + 1 < end → (byteAt s (at + 1) ≡ 48 → end ≡ at + 1 + 1) → numberEnd (integerAt s at) ≡ Walk.End (end + 1)
+few-plain s at end (is, h) e i some only =
+    ap numberEnd (few-natural s at (digitsAt s (at + 1)) refl (ap (byteAt s) (sym is) ∙ e) i h (rw is at some) (λ z. sym is ∙ only z))
+    ∙ ap (λ (n : ℕ). Walk.End (n + 1)) (sym is)

@@ -1,4 +1,4 @@
--- `bencode::integers::after_integer` meets its contract: by `natural` where that found one, else by `integer`.
+-- `bencode::integers::after_integer` meets its contract: by `plain_end` where that found one, else by `integer`.
 -- Assumes nothing.
 use mathlib.Core.Path.{sym, ap, _∙_}
 use native.Mathlib.Omega.{arith}
@@ -9,13 +9,13 @@ use borrow.Author.Needs.{needs}
 use Rattle.bencode.proofs.integers.after_integer.Statement.{statement}
 use Rattle.bencode.proofs.integers.after_integer.Tie as tie
 
-natural-requires : tie.Need-natural-requires
-natural-requires c κs = search needs
+plain-end-requires : tie.Need-plain-end-requires
+plain-end-requires c κs = search needs
 
 returns : tie.Need-returns
 returns c =
     let e = c .if1 .taken in
-    sym (ap (λ (n : Number). afterOf (numberEnd n)) (c .before .natural .ensures (omega arith)))
+    sym (ap afterOf (c .before .plain-end .ensures (omega arith)))
 
 integer-requires : tie.Need-integer-requires
 integer-requires c κs = search needs
@@ -36,7 +36,7 @@ pub after-integer-spec : {M : Type 1} → statement M
 after-integer-spec =
     tie.close
     (tie.spec
-    natural-requires
+    plain-end-requires
     returns
     integer-requires
     enum-known-last

@@ -1,12 +1,12 @@
--- `bencode::integers::natural` meets its contract: at 0 it promises nothing, and elsewhere one law has it.
+-- `bencode::plain_integers::plain_end` meets its contract: at 0 it promises nothing, and elsewhere one law has it.
 -- Assumes nothing.
 use native.Mathlib.Omega.{arith}
 use borrow.Author.Needs.{needs}
 use borrow.Author.Tests.{not-false}
 use Rattle.octets.proofs.digits.NumeralLaws.{inside}
-use Rattle.bencode.proofs.scalars.FewLaws.{few-natural}
-use Rattle.bencode.proofs.integers.natural.Statement.{statement}
-use Rattle.bencode.proofs.integers.natural.Tie as tie
+use Rattle.bencode.proofs.scalars.FewLaws.{few-plain}
+use Rattle.bencode.proofs.plain_integers.plain_end.Statement.{statement}
+use Rattle.bencode.proofs.plain_integers.plain_end.Tie as tie
 
 byte-at-requires : tie.Need-byte-at-requires
 byte-at-requires c κs = search needs
@@ -23,8 +23,8 @@ returns-2 c h = absurd (omega (arith, h))
 add-from : tie.Need-add-from
 add-from c = search needs
 
-few-digits-requires : tie.Need-few-digits-requires
-few-digits-requires c κs = search needs
+few-end-requires : tie.Need-few-end-requires
+few-end-requires c κs = search needs
 
 shared-slice-read-if3 : tie.Need-shared-slice-read-if3
 shared-slice-read-if3 c = search needs
@@ -38,18 +38,18 @@ is-short-requires c κs = search needs
 returns-4 : tie.Need-returns-4
 returns-4 c h = absurd (omega (arith, h))
 
-add-t10 : tie.Need-add-t10
-add-t10 c = search needs
+add-result : tie.Need-add-result
+add-result c = search needs
 
 returns-5 : tie.Need-returns-5
 returns-5 c h =
     let a = c .before .before .before .before .before .before .before .before .before .args in
-    let d = c .before .before .before .before .few-digits in
+    let d = c .before .before .before .before .few-end in
     let short = c .before .is-short .ensures (not-false (c .before .is-short .result) (c .if4 .left)) in
-    few-natural (a .s .now) (a .at) (d .result) (d .ensures .3 (short .1)) (omega arith) (omega (arith, c .before .before .before .before .before .before .before .byte-at .ensures)) (d .ensures .2) (short .0) (short .2)
+    few-plain (a .s .now) (a .at) (d .result) (d .ensures .2 (short .1)) (omega arith) (omega (arith, c .before .before .before .before .before .before .before .byte-at .ensures)) (short .0) (short .2)
 
-pub natural-spec : {M : Type 1} → statement M
-natural-spec =
+pub plain-end-spec : {M : Type 1} → statement M
+plain-end-spec =
     tie.close
     (tie.spec
     byte-at-requires
@@ -57,10 +57,10 @@ natural-spec =
     sub-left
     returns-2
     add-from
-    few-digits-requires
+    few-end-requires
     shared-slice-read-if3
     returns-3
     is-short-requires
     returns-4
-    add-t10
+    add-result
     returns-5)

@@ -1,4 +1,4 @@
--- `bencode::integers::few_digits` meets its contract: one law for each way through the loop.
+-- `bencode::plain_integers::few_digits` meets its contract: one law for each way through the loop.
 -- Assumes nothing.
 use Prim.Native.Nat.{_+_, _-_, _*_, _≤_}
 use mathlib.Core.Path.{_≡_}
@@ -6,8 +6,8 @@ use native.Mathlib.Omega.{arith}
 use borrow.Author.Needs.{needs}
 use Rattle.octets.specs.Bytes.{byteAt}
 use Rattle.bencode.proofs.scalars.FewLaws.{Few, few-none, few-all, few-room, few-low, few-high, few-more}
-use Rattle.bencode.proofs.integers.few_digits.Statement.{statement}
-use Rattle.bencode.proofs.integers.few_digits.Tie as tie
+use Rattle.bencode.proofs.plain_integers.few_digits.Statement.{statement}
+use Rattle.bencode.proofs.plain_integers.few_digits.Tie as tie
 
 abbrev Inv-loop : tie.InvT-loop
 Inv-loop s from k₀ n₀ k n = Few s from k n

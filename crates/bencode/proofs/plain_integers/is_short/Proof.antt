@@ -1,4 +1,4 @@
--- `bencode::integers::is_short` meets its contract: false promises nothing, and what true promises was tested.
+-- `bencode::plain_integers::is_short` meets its contract: false promises nothing, and what true promises was tested.
 -- Assumes nothing.
 use mathlib.Core.Path.{sym}
 use mathlib.Core.Bool.{true≢false}
@@ -7,8 +7,8 @@ use lib.Dec.{eqb}
 use borrow.Author.Tests.{eqb-false, not-true}
 use Rattle.octets.specs.Bytes.{byteAt}
 use borrow.Author.Needs.{needs}
-use Rattle.bencode.proofs.integers.is_short.Statement.{statement}
-use Rattle.bencode.proofs.integers.is_short.Tie as tie
+use Rattle.bencode.proofs.plain_integers.is_short.Statement.{statement}
+use Rattle.bencode.proofs.plain_integers.is_short.Tie as tie
 
 returns : tie.Need-returns
 returns c h = absurd (true≢false (sym h))
