@@ -3,13 +3,7 @@ ghost use mathlib.Core.Path.{_≡_};
 ghost use Prim.Native.Nat.{_<_};
 ghost use Rattle.bencode.specs.Marks.{placeOf, isMarked, withMark};
 use octets::byte_at;
-
-// A byte of a key as a number.
-fn wide(b: u8) -> u64
-    ensures { λ r. ⌜ r ≡ b ⌝ }
-{
-    b as u64
-}
+use octets::wide;
 
 // The place of a key's mark, by its length and its first byte.
 pub fn place(key: &[u8]) -> u64

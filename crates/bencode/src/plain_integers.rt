@@ -12,13 +12,7 @@ ghost use Rattle.bencode.specs.declared.fault.Walk.{Walk};
 ghost use Rattle.bencode.specs.Integers.{integerAt, numberEnd};
 use octets::Decimal;
 use octets::byte_at;
-
-// A byte as a number.
-fn wide(b: u8) -> u64
-    ensures { λ r. ⌜ r ≡ b ⌝ }
-{
-    b as u64
-}
+use octets::wide;
 
 // At most this many digits are read at once: as many fit 63 bits, whatever they are.
 const FEW: usize = 18;

@@ -44,3 +44,10 @@ pub fn less(x: &[u8], y: &[u8]) -> bool
         i += 1;
     }
 }
+
+// A byte as a number.
+pub fn wide(b: u8) -> u64
+    ensures { λ r. ⌜ r ≡ b ⌝ }
+{
+    b as u64
+}

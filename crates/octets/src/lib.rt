@@ -9,6 +9,7 @@ mod store;
 pub use bytes::byte_at;
 pub use bytes::less;
 pub use bytes::same;
+pub use bytes::wide;
 pub use decimal::decimal_length;
 pub use numerals::Decimal;
 pub use numerals::numeral;

@@ -4,6 +4,7 @@ ghost use Prim.Native.Nat.{_+_, _-_, _*_, _^_, min};
 ghost use lib.ListN.{drop};
 ghost use Rattle.octets.specs.Numerals.{digits, digitsAt, numeralAt, capped};
 use super::bytes::byte_at;
+use super::bytes::wide;
 
 // A decimal numeral: the offset after its last digit, and its number, at most LARGEST.
 pub struct Decimal {
@@ -31,13 +32,6 @@ fn extended(number: u64, digit: u8) -> u64
     } else {
         tens + d
     }
-}
-
-// A byte as a number.
-fn wide(b: u8) -> u64
-    ensures { λ r. ⌜ r ≡ b ⌝ }
-{
-    b as u64
 }
 
 // The digits from an offset on, after a number: for a number that one digit more may take past LARGEST.
