@@ -13,6 +13,10 @@ use Rattle.octets.specs.Bytes.{slice, less}
 use Rattle.bencode.specs.Entry.{entryAt}
 use Rattle.bencode.specs.Marks.{placeOf, isMarked, withMark}
 
+-- what is kept before the first entry, which is at an offset
+abbrev pub noneSeen : ℕ → Seen
+noneSeen first = record { first = first; start = 0; end = 0; marks = 0 }
+
 -- was a key found before an offset
 abbrev pub foundBefore : ℕ → Entry → Bool
 foundBefore end (Entry.At at) = ltb at end
@@ -22,10 +26,6 @@ foundBefore end Entry.Missing = false
 unfoldable pub usedAt : List ℕ → ℕ → List ℕ → ℕ → Bool
 usedAt s first key end = foundBefore end (entryAt s key first)
 
--- what is kept before the first entry, which is at an offset
-abbrev pub noneSeen : ℕ → Seen
-noneSeen first = record { first = first; start = 0; end = 0; marks = 0 }
-
 -- the same, by a search only where the key's mark is there
 unfoldable pub repeatedAt : List ℕ → Seen → List ℕ → ℕ → Bool
 repeatedAt s seen key end = cond (isMarked (seen .marks) (placeOf key)) (usedAt s (seen .first) key end) false
@@ -34,10 +34,11 @@ repeatedAt s seen key end = cond (isMarked (seen .marks) (placeOf key)) (usedAt 
 unfoldable pub aboveAt : List ℕ → Seen → ℕ → List ℕ → Bool
 aboveAt s seen at key = cond (leb at (seen .first)) true (less (slice s (seen .start) (seen .end)) key)
 
--- what is kept after a key: from start up to end where it is the greatest, else with its mark alone
+-- what is kept after a key from start up to end that is above the earlier ones
 abbrev pub risen : List ℕ → Seen → ℕ → ℕ → Seen
 risen s seen start end = record { first = seen .first; start = start; end = end; marks = withMark (seen .marks) (placeOf (slice s start end)) }
 
+-- what is kept after any other key: its mark
 abbrev pub marked : Seen → List ℕ → Seen
 marked seen key = record { first = seen .first; start = seen .start; end = seen .end; marks = withMark (seen .marks) (placeOf key) }
 

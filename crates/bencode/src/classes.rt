@@ -1,4 +1,4 @@
-// The classes of bytes: one table, through which the walk looks at the bytes that values start and end with.
+// The classes of bytes: one table, by which the walk tells lists, dictionaries and their ends from other values.
 ghost use mathlib.Core.Path.{_≡_};
 ghost use mathlib.Core.Bool.{true};
 ghost use Rattle.octets.specs.Bytes.{byteAt};
@@ -24,7 +24,7 @@ const CLASSES: [u8; 256] = *b"\
     ................\
     ................";
 
-// The table. A walk makes it once and lends it on, since each use of the constant copies it whole.
+// The table. Each public function of the walk makes it once and lends it on, since each use of the constant copies it whole.
 pub fn classes() -> [u8; 256]
     ensures { λ r. ⌜ isTable r ≡ true ⌝ }
 {

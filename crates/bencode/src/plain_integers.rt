@@ -17,6 +17,9 @@ use octets::wide;
 // At most this many digits are read at once: as many fit 63 bits, whatever they are.
 const FEW: usize = 18;
 
+// What an integer and the byte after FEW digits take. Nearer to the end of the bytes `integer` is as good.
+const ROOM: usize = 20;
+
 // The digits from an offset on, up to FEW of them: no test whether the bytes end, or whether the number has room.
 fn few_digits(s: &[u8], from: usize) -> Decimal
     requires { ⌜ from + 18 ≤ length (now s) ⌝ }
@@ -47,7 +50,7 @@ fn few_digits(s: &[u8], from: usize) -> Decimal
     }
 }
 
-// Are digits that end at an offset a numeral: some, fewer than FEW, and no 0 before others.
+// Are digits that end at an offset a numeral: some, fewer than FEW, and no 0 before others. Where not, this says nothing.
 fn is_short(s: &[u8], from: usize, end: usize) -> bool
     requires { ⌜ (from ≤ end) × (end ≤ from + 18) × (from + 18 ≤ length (now s)) ⌝ }
     ensures { λ r. ⌜ (r ≡ true → (from < end) × (end < from + 18) × (byteAt (now (s .entry)) from ≡ 48 → end ≡ from + 1)) ⌝ }
@@ -71,9 +74,8 @@ pub fn natural(s: &[u8], at: usize) -> Decimal
     if byte_at(s, at) != b'i' {
         return Decimal { end: 0, number: 0 };
     }
-    // near the end of the bytes `integer` is as good
     let left = s.len() - at;
-    if left < 20 {
+    if left < ROOM {
         return Decimal { end: 0, number: 0 };
     }
     let from = at + 1;
@@ -119,7 +121,7 @@ pub fn plain_end(s: &[u8], at: usize) -> usize
         return 0;
     }
     let left = s.len() - at;
-    if left < 20 {
+    if left < ROOM {
         return 0;
     }
     let from = at + 1;

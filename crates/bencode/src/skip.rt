@@ -50,6 +50,10 @@ fn skip_from(s: &[u8], from: usize, levels: usize) -> usize
 pub fn skip_value(s: &[u8], at: usize) -> usize
     ensures { λ r. ⌜ r ≡ skipValue (now (s .entry)) at ⌝ }
 {
+    let after = after_scalar(s, at);
+    if after != 0 {
+        return after;
+    }
     skip_from(s, at, 0)
 }
 

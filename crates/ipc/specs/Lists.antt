@@ -1,4 +1,5 @@
--- What the functions of lists.rt promise: each way is an equation of `Walk` and of `Format`.
+-- Pinned by the promise of `message`; nothing public cites it. What the functions of lists.rt promise, as equations of bencode's
+-- `Walk` and of `Format`.
 -- Assumes nothing.
 use Prim.Native.Nat.{ℕ}
 use mathlib.Core.Path.{_≡_}
@@ -21,6 +22,7 @@ abbrev pub hasId : OptionalId → Bool
 hasId (OptionalId.Id id) = true
 hasId OptionalId.None = false
 
+-- is an integer a torrent ID
 abbrev pub isId : Number → Bool
 isId (Number.Integer z end) = hasId (torrentIdOf z)
 isId (Number.Fault f) = false

@@ -1,4 +1,5 @@
--- What the functions of message.rt promise each other: a message by one walk, which comes to what `Reader` says of it.
+-- Pinned by the promise of `message`, which is `payloadReading`; nothing public cites it. A message by one walk: what the functions of
+-- message.rt promise each other.
 -- Assumes nothing.
 use Prim.Native.Nat.{ℕ}
 use mathlib.Core.Path.{_≡_}

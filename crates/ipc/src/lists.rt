@@ -15,8 +15,8 @@ use bencode::integer;
 use bencode::record;
 use octets::byte_at;
 
-// A list whose items are all in their format, by the offset after it; a list that is sound up to an offset between two items,
-// and has an item off the format, before that offset or at it; or the list's first fault.
+// A list whose items are all in their format, by the offset after it; a list that comes to what it comes to from a later offset on,
+// given up because no item in its format stands there or just before; or the list's first fault.
 pub enum ListCheck {
     Fits(usize),
     Off(usize),

@@ -15,7 +15,7 @@ pub struct Decimal {
 // The largest number that is told apart from larger ones.
 const LARGEST: u64 = 18446744073709551615;
 
-// Up to this number, one digit more is within LARGEST, whatever the digit.
+// A number up to this has room for one digit more, also while the digit is still a byte, which is up to 57.
 const ROOMY: u64 = 1844674407370955155;
 
 // The number with one digit more, or LARGEST where that is too large.

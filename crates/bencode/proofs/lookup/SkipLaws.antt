@@ -128,7 +128,7 @@ module _ (s : List ℕ) where
   abbrev pub Skips : (ℕ → Walk) → Type 0
   Skips value = (at end : ℕ) → value at ≡ Walk.End end → (depth : ℕ) → skipFrom s at depth ≡ afterStep (landed end depth) (λ to d. skipFrom s to d)
 
-  scalar-skips : Skips (scalarAt s)
+  pub scalar-skips : Skips (scalarAt s)
   scalar-skips at end e depth = let w = scalar-ends s at end e in skip-scalar-step at depth (not-opens (byteAt s at) (w .no-list) (w .no-dictionary)) (w .no-e) (Walk.End end) e
 
   -- inside a list or a dictionary skipping goes on
