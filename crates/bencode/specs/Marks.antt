@@ -1,6 +1,6 @@
 -- Pinned by the promise of the walk's `dictionary`; nothing public cites it. Marks of a dictionary's keys, a bit of 64 for each.
 -- Assumes nothing.
-use Prim.Native.Nat.{ℕ, _+_, _*_, _/_, _%_, _^_}
+use Prim.Native.Nat.{ℕ, _+_, _-_, _*_, _/_, _%_, _^_}
 use mathlib.Core.Bool.{Bool}
 use mathlib.Core.List.{List}
 use lib.Bits.{bitOr}
@@ -10,7 +10,7 @@ use Rattle.octets.specs.Bytes.{byteAt}
 
 -- the place of a key's mark: equal keys have one place
 unfoldable pub placeOf : List ℕ → ℕ
-placeOf key = (length key % 4 * 16 + byteAt key 0) % 64
+placeOf key = (length key % 64 * 7 + byteAt key 0 * 2 + byteAt key (length key - 1)) % 64
 
 -- is the mark at a place there
 unfoldable pub isMarked : ℕ → ℕ → Bool

@@ -1,5 +1,5 @@
--- `notedOf` and `notedAt` are to be believed; the rest is pinned by the promises of `dictionary` and `value`, and nothing public cites it. A
--- dictionary walked, and the value of a key noted on the way.
+-- `notedOf` and `notedAt` are to be believed; the rest is pinned by the promises of `dictionary` and `value`, and nothing public
+-- cites it. A dictionary walked, and the value of a key noted on the way.
 -- Assumes nothing.
 use Prim.Native.Nat.{ℕ, zero, suc}
 use mathlib.Core.Bool.{Bool, cond}
