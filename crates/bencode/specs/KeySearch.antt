@@ -38,7 +38,7 @@ aboveAt s seen at key = cond (leb at (seen .first)) true (less (slice s (seen .s
 abbrev pub risen : List ℕ → Seen → ℕ → ℕ → Seen
 risen s seen start end = record { first = seen .first; start = start; end = end; marks = withMark (seen .marks) (placeOf (slice s start end)) }
 
--- what is kept after any other key: its mark
+-- what is kept after any other key: its mark more
 abbrev pub marked : Seen → List ℕ → Seen
 marked seen key = record { first = seen .first; start = seen .start; end = seen .end; marks = withMark (seen .marks) (placeOf key) }
 

@@ -18,8 +18,8 @@ fn last(key: &[u8]) -> u8
     key[n - 1]
 }
 
-// The place of a key's mark, by its length, its first and its last byte: so no two of the keys that document 002 names for a
-// torrent have one place.
+// The place of a key's mark, by its length, its first and its last byte: so no two of the keys that document 002 names for
+// `info` have one place, and no two of those for `status`.
 pub fn place(key: &[u8]) -> u64
     ensures { λ r. ⌜ (r ≡ placeOf (now (key .entry))) × (r < 64) ⌝ }
 {

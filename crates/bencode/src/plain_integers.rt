@@ -17,7 +17,7 @@ use octets::wide;
 // At most this many digits are read at once: as many fit 63 bits, whatever they are.
 const FEW: usize = 18;
 
-// What an integer and the byte after FEW digits take. Nearer to the end of the bytes `integer` is as good.
+// An `i`, FEW digits and the byte after them. Nearer to the end of the bytes `integer` is as good.
 const ROOM: usize = 20;
 
 // The digits from an offset on, up to FEW of them: no test whether the bytes end, or whether the number has room.

@@ -1,5 +1,5 @@
--- Pinned by the promise of `message`, which is `payloadReading`; nothing public cites it. A message by one walk: what the functions of
--- message.rt promise each other.
+-- Pinned by the promise of `message`, which is `payloadReading`; nothing public cites it. A message by one walk: what the
+-- functions of message.rt promise each other.
 -- Assumes nothing.
 use Prim.Native.Nat.{ℕ}
 use mathlib.Core.Path.{_≡_}

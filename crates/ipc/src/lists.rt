@@ -15,7 +15,7 @@ use bencode::integer;
 use bencode::record;
 use octets::byte_at;
 
-// A list whose items are all in their format, by the offset after it; a list that comes to what it comes to from a later offset on,
+// A list whose items are all in their format, by the offset after it; a list that comes to what it comes to from an offset on,
 // given up because no item in its format stands there or just before; or the list's first fault.
 pub enum ListCheck {
     Fits(usize),
