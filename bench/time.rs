@@ -3,7 +3,8 @@
 use std::hint::black_box;
 use std::time::{Duration, Instant};
 
-use crate::{bogsilver, proved, shapes, walker};
+use crate::bogsilver::{self, HEADER_LENGTH};
+use crate::{frame_shapes, proved, shapes, walker};
 
 /// A sample is at least so long, by repeating the call, so that neither the clock's step counts nor what the other sides left
 /// in the caches.
@@ -15,13 +16,20 @@ const SAMPLES: std::ops::RangeInclusive<usize> = 21..=1001;
 
 type Shape = fn(usize) -> Vec<u8>;
 
-const SHAPES: [(&str, Shape); 5] = [
+const SHAPES: [(&str, Shape); 7] = [
     ("list of integers", shapes::integers),
     ("list of strings", shapes::strings),
     ("info list, keys sorted", shapes::info),
     ("info list, keys unsorted", shapes::info_unsorted),
+    ("status list", |size| payload(frame_shapes::status(size))),
+    ("ID list", |size| payload(frame_shapes::start(size))),
     ("dictionary, keys rising", shapes::rising),
 ];
+
+/// A frame's payload.
+fn payload(frame: Vec<u8>) -> Vec<u8> {
+    frame[HEADER_LENGTH..].to_vec()
+}
 
 pub fn run() {
     print_title("payload");

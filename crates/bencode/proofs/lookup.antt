@@ -5,3 +5,4 @@ pub mod FieldLaws
 pub mod ListLaws
 pub mod RecordLaws
 pub mod NotedLaws
+pub mod RunLaws

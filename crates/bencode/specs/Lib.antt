@@ -10,6 +10,7 @@ pub mod Walk
 pub mod Skip
 pub mod Entry
 pub mod Marks
+pub mod Runs
 pub mod Record
 pub mod KeySearch
 pub mod Classes

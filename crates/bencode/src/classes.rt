@@ -31,11 +31,18 @@ pub fn classes() -> [u8; 256]
     CLASSES
 }
 
+// The class of a byte.
+pub fn class_of(classes: &[u8; 256], b: u8) -> u8
+    requires { ⌜ isTable (now classes) ≡ true ⌝ }
+    ensures { λ r. ⌜ r ≡ classOf b ⌝ }
+{
+    classes[b as usize]
+}
+
 // The class of the byte at an offset.
 pub fn class_at(classes: &[u8; 256], s: &[u8], at: usize) -> u8
     requires { ⌜ isTable (now classes) ≡ true ⌝ }
     ensures { λ r. ⌜ r ≡ classOf (byteAt (now (s .entry)) at) ⌝ }
 {
-    let b = byte_at(s, at) as usize;
-    classes[b]
+    class_of(classes, byte_at(s, at))
 }

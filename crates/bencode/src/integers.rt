@@ -3,11 +3,9 @@ ghost use mathlib.Core.Path.{_≡_};
 ghost use Prim.Native.Nat.{_^_, _≤_};
 ghost use lib.IntN.{pos, negℤ, natAbs};
 ghost use Rattle.bencode.specs.Fault.{afterOf};
-ghost use Rattle.bencode.specs.Integers.{signed, inRange, integerFrom, integerAt, numberEnd, afterPositive};
+ghost use Rattle.bencode.specs.Integers.{signed, inRange, integerFrom, integerAt, numberEnd};
 use super::fault::Fault;
 use super::fault::Walk;
-use super::plain_integers::natural;
-use super::plain_integers::plain_end;
 use octets::byte_at;
 use octets::numeral;
 
@@ -122,45 +120,8 @@ pub fn integer_end(s: &[u8], at: usize) -> Walk
 pub fn after_integer(s: &[u8], at: usize) -> usize
     ensures { λ r. ⌜ r ≡ afterOf (numberEnd (integerAt (now (s .entry)) at)) ⌝ }
 {
-    let end = plain_end(s, at);
-    if end != 0 {
-        return end;
-    }
     match integer(s, at) {
-        Number::Integer {
-            value: _,
-            end: last,
-        } => last,
-        Number::Fault(_) => 0,
-    }
-}
-
-// The offset after the integer at an offset where it is from 1 to another, and 0 where it is not.
-pub fn after_positive(s: &[u8], at: usize, high: u64) -> usize
-    ensures { λ r. ⌜ r ≡ afterPositive high (integerAt (now (s .entry)) at) ⌝ }
-{
-    let n = natural(s, at);
-    let end = n.end;
-    let number = n.number;
-    if end != 0 {
-        if number < 1 {
-            return 0;
-        }
-        if high < number {
-            return 0;
-        }
-        return end;
-    }
-    match integer(s, at) {
-        Number::Integer { value, end: last } => {
-            if value < 1 {
-                return 0;
-            }
-            if high < (value as u64) {
-                return 0;
-            }
-            last
-        }
+        Number::Integer { value: _, end } => end,
         Number::Fault(_) => 0,
     }
 }

@@ -19,18 +19,19 @@ pub enum Noted {
     Fault(Fault),
 }
 
-// Where the value of a key was found, 0 for nowhere, after one entry more, whose key is from start up to end.
+// Where the value of a key was found, 0 for nowhere, after one entry more, whose key is from start up to end. Its length tells most
+// others from it, so the text is asked for first.
 pub fn found_after(found: usize, s: &[u8], start: usize, end: usize, key: &[u8]) -> usize
     requires { ⌜ (start ≤ end) × (end ≤ length (now s)) ⌝ }
     ensures { λ r. ⌜ r ≡ foundAfter found (same (slice (now (s .entry)) start end) (now (key .entry))) end ⌝ }
 {
+    if !octets::same(&s[start..end], key) {
+        return found;
+    }
     if found != 0 {
         return found;
     }
-    if octets::same(&s[start..end], key) {
-        return end;
-    }
-    0
+    end
 }
 
 // A dictionary that ends, with where the value of the key was found.

@@ -14,11 +14,11 @@ pub struct Place {
 }
 
 // The place of a text of a number of bytes, where it is all there.
-fn text_place(s: &[u8], start: usize, number: u8) -> Place
-    requires { ⌜ start ≤ length (now s) ⌝ }
+fn text_place(s: &[u8], start: usize, number: usize) -> Place
+    requires { ⌜ (start ≤ length (now s)) × (number < 100) ⌝ }
     ensures { λ r. ⌜ (0 < r .end → (r .start ≡ start) × (r .end ≡ start + number) × (r .end ≤ length (now (s .entry)))) ⌝ }
 {
-    let end = start + (number as usize);
+    let end = start + number;
     if s.len() < end {
         return Place { start: 0, end: 0 };
     }
@@ -42,7 +42,7 @@ fn two_digits(s: &[u8], at: usize, a: u8, b: u8) -> Place
     if a == b'0' {
         return Place { start: 0, end: 0 };
     }
-    text_place(s, at + 3, (a - b'0') * 10 + (b - b'0'))
+    text_place(s, at + 3, (a as usize) * 10 + (b as usize) - 528)
 }
 
 // The string at an offset, if its length has one or two digits.
@@ -58,7 +58,7 @@ pub fn short_string(s: &[u8], at: usize) -> Place
     }
     let b = byte_at(s, at + 1);
     if b == b':' {
-        return text_place(s, at + 2, a - b'0');
+        return text_place(s, at + 2, (a as usize) - 48);
     }
     two_digits(s, at, a, b)
 }

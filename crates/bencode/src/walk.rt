@@ -23,7 +23,8 @@ use super::records::end_of;
 use super::records::found_after;
 use super::records::noted_end;
 use super::records::noted_key;
-use super::scalar::after_scalar;
+use super::runs::quick_items;
+use super::scalar::quick_scalar;
 use super::scalar::scalar_end;
 use super::strings::Text;
 use super::strings::key_string;
@@ -63,11 +64,12 @@ pub fn list(s: &[u8], from: usize, depth: Depth, profile: Profile, classes: &[u8
 {
     let mut at = from;
     loop {
-        if class_at(classes, s, at) == b'e' {
+        let class = class_at(classes, s, at);
+        if class == b'e' {
             return Walk::End(at + 1);
         }
-        let after = after_scalar(s, at);
-        if after != 0 {
+        let after = quick_items(s, at, class, classes);
+        if at < after {
             at = after;
         } else {
             match value(s, at, depth, profile, classes) {
@@ -113,7 +115,7 @@ pub fn dictionary(
             }
         }
         found = found_after(found, s, start, end, key);
-        let after = after_scalar(s, end);
+        let after = quick_scalar(s, end, classes);
         if after != 0 {
             at = after;
         } else {

@@ -1,14 +1,17 @@
 -- Pinned by the promise of `message`; nothing public cites it. What the functions of lists.rt promise, as equations of bencode's
 -- `Walk` and of `Format`.
 -- Assumes nothing.
-use Prim.Native.Nat.{ℕ}
+use Prim.Native.Nat.{ℕ, _+_}
 use mathlib.Core.Path.{_≡_}
-use mathlib.Core.Bool.{Bool, true, false}
+use mathlib.Core.Bool.{Bool, true, false, cond}
 use mathlib.Core.List.{List}
+use lib.Dec.{eqb}
+use Rattle.octets.specs.Bytes.{byteAt}
 use Rattle.bencode.specs.declared.fault.Walk.{Walk}
 use Rattle.bencode.specs.declared.integers.Number.{Number}
 use Rattle.bencode.specs.declared.profile.Profile.{Profile}
 use Rattle.bencode.specs.Depth.{sublistLevels}
+use Rattle.bencode.specs.Letters.{letterE}
 use Rattle.bencode.specs.Walk.{listAt}
 use Rattle.ipc.specs.declared.format.Items.{Items}
 use Rattle.ipc.specs.declared.format.OptionalEnd.{OptionalEnd}
@@ -26,6 +29,10 @@ hasId OptionalId.None = false
 abbrev pub isId : Number → Bool
 isId (Number.Integer z end) = hasId (torrentIdOf z)
 isId (Number.Fault f) = false
+
+-- the list whose items before an offset are in their format: it ends there, or is given up there
+abbrev pub endsAt : List ℕ → ℕ → ListCheck
+endsAt p at = cond (eqb (byteAt p at) letterE) (ListCheck.Fits (at + 1)) (ListCheck.Off at)
 
 -- the list whose items start at an offset: it ends and every item is in its format; it is the list that goes on at another
 -- offset; or it has a fault

@@ -1,10 +1,9 @@
 // The listed keys: a table of their bytes, formats and whether they are written, and the number of a key.
 ghost use mathlib.Core.Path.{_≡_};
 ghost use Prim.Native.Nat.{_≤_, _<_};
-ghost use lib.ListN.{length, take};
+ghost use lib.ListN.{length};
 ghost use Rattle.octets.specs.Put.{Put};
 ghost use Rattle.bencode.specs.Value.{encodeString};
-ghost use Rattle.octets.specs.Bytes.{same};
 ghost use Rattle.ipc.specs.Keys.{keyCount, rowOf, rowAt, listedAt, keyText, keyNumber, classOf, isWritten};
 use bencode::put_string;
 
@@ -172,30 +171,36 @@ fn row_at(k: usize) -> KeyRow
     KEYS[k]
 }
 
-// Is a text the key of a row.
-fn is_row(row: KeyRow, text: &[u8]) -> bool
-    requires { ⌜ row .length ≤ length (row .text) ⌝ }
-    ensures { λ r. ⌜ r ≡ same (take (row .length) (row .text)) (now (text .entry)) ⌝ }
-{
-    let n = row.length;
-    let name = row.text;
-    octets::same(&name[..n], text)
+// A key by its number and the format of its values. One that is not listed has the number 0.
+pub struct Key {
+    pub number: u8,
+    pub class: Class,
 }
 
-// The number of a key, and 0 for one that is not listed. The table is copied once, not a row of it for each key.
-pub fn key_number(text: &[u8]) -> u8
-    ensures { λ r. ⌜ r ≡ keyNumber (now (text .entry)) ⌝ }
+// The key with a text. The table is copied once for both answers, and a row of it only where the lengths are equal.
+pub fn key_of(text: &[u8]) -> Key
+    ensures { λ r. ⌜ (r .number ≡ keyNumber (now (text .entry))) × (r .class ≡ classOf (keyNumber (now (text .entry)))) ⌝ }
 {
     let keys = KEYS;
     let mut k: usize = 0;
     while k < LISTED {
-        let row = keys[k];
-        if is_row(row, text) {
-            return (k + 1) as u8;
+        let next = k + 1;
+        let n = keys[k].length;
+        if n == text.len() {
+            let row = keys[k];
+            let name = row.text;
+            if octets::same(&name[..n], text) {
+                let number = next as u8;
+                let class = row.class;
+                return Key { number, class };
+            }
         }
-        k += 1;
+        k = next;
     }
-    0
+    Key {
+        number: 0,
+        class: Class::Unlisted,
+    }
 }
 
 // The row of a key, and that of no key for 0 and past the last number.

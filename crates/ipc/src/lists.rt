@@ -2,17 +2,17 @@
 ghost use mathlib.Core.Path.{_≡_};
 ghost use Rattle.bencode.specs.Integers.{integerAt};
 ghost use Rattle.ipc.specs.declared.format.Items.{Items};
-ghost use Rattle.ipc.specs.Lists.{Listing, isId};
+ghost use Rattle.ipc.specs.Lists.{endsAt, Listing, isId};
 use super::ids::OptionalId;
 use super::ids::TorrentId;
 use bencode::Fault;
 use bencode::Noted;
 use bencode::Number;
 use bencode::Profile;
-use bencode::after_positive;
-use bencode::after_string;
 use bencode::integer;
+use bencode::positives;
 use bencode::record;
+use bencode::texts;
 use octets::byte_at;
 
 // A list whose items are all in their format, by the offset after it; a list that comes to what it comes to from an offset on,
@@ -23,38 +23,28 @@ pub enum ListCheck {
     Fault(Fault),
 }
 
+// The list whose items before an offset are in their format: it ends there, or is given up there.
+fn ends_at(p: &[u8], at: usize) -> ListCheck
+    ensures { λ r. ⌜ r ≡ endsAt (now (p .entry)) at ⌝ }
+{
+    if byte_at(p, at) == b'e' {
+        return ListCheck::Fits(at + 1);
+    }
+    ListCheck::Off(at)
+}
+
 // The list of strings whose items start at an offset.
 pub fn text_list(p: &[u8], from: usize) -> ListCheck
     ensures { λ r. ⌜ Listing Items.Texts (now (p .entry)) from r ⌝ }
 {
-    let mut at = from;
-    loop {
-        if byte_at(p, at) == b'e' {
-            return ListCheck::Fits(at + 1);
-        }
-        let end = after_string(p, at);
-        if end == 0 {
-            return ListCheck::Off(at);
-        }
-        at = end;
-    }
+    ends_at(p, texts(p, from))
 }
 
 // The list of torrent IDs whose items start at an offset.
 pub fn id_list(p: &[u8], from: usize) -> ListCheck
     ensures { λ r. ⌜ Listing Items.Ids (now (p .entry)) from r ⌝ }
 {
-    let mut at = from;
-    loop {
-        if byte_at(p, at) == b'e' {
-            return ListCheck::Fits(at + 1);
-        }
-        let end = after_positive(p, at, TorrentId::LARGEST as u64);
-        if end == 0 {
-            return ListCheck::Off(at);
-        }
-        at = end;
-    }
+    ends_at(p, positives(p, from, TorrentId::LARGEST as u64))
 }
 
 // Is a torrent ID at an offset.

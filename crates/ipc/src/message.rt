@@ -24,7 +24,7 @@ use super::ids::OptionalTag;
 use super::ids::Tag;
 use super::keys::Class;
 use super::keys::class_of;
-use super::keys::key_number;
+use super::keys::key_of;
 use super::lists::ListCheck;
 use super::lists::id_list;
 use super::lists::text_list;
@@ -186,8 +186,10 @@ pub fn message(p: &[u8]) -> Reading
             if byte_at(p, end) == b'e' {
                 return unkeyed(p);
             }
-            let key = key_number(&p[start..end]);
-            match value_of(p, class_of(key), end) {
+            let found = key_of(&p[start..end]);
+            let key = found.number;
+            let class = found.class;
+            match value_of(p, class, end) {
                 ValueCheck::Fits(e) => rest(p, key, end, e, true),
                 ValueCheck::Other(e) => rest(p, key, end, e, false),
                 ValueCheck::Fault(f) => Reading::Payload(f),

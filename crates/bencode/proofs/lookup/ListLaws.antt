@@ -14,25 +14,17 @@ use Rattle.bencode.specs.declared.profile.Profile.{Profile}
 use Rattle.bencode.specs.declared.strings.Text.{Text}
 use Rattle.octets.specs.Bytes.{byteAt}
 use Rattle.bencode.specs.Depth.{listLevels}
-use Rattle.bencode.specs.Fault.{afterOf}
 use Rattle.bencode.specs.Integers.{within, integerAt, afterPositive}
 use Rattle.bencode.specs.Item.{itemAt}
-use Rattle.bencode.specs.Strings.{stringAt, textEnd}
+use Rattle.bencode.specs.Strings.{stringAt}
 use Rattle.bencode.specs.Walk.{valueAt, listAt, whole, payloadAt}
 use Rattle.bencode.proofs.walking.Ends.{SignedInteger, plus, minus, string-whole-inv, integer-inv, integer-scalar}
 use Rattle.bencode.proofs.walking.WalkLaws.{value-ends, value-list, scalar-value, list-fault, list-more}
 use Rattle.bencode.proofs.lookup.SkipLaws.{value-skips, string-scalar}
 use Rattle.bencode.proofs.lookup.ItemLaws.{item-value}
 
--- ---- an offset that stands for what was read, 0 for nothing
+-- ---- an integer in a range, by the offset after it, which is 0 for none
 module _ (s : List ℕ) (at r : ℕ) (some : r ≡ 0 → ⊥) where
-  pub after-text : r ≡ afterOf (textEnd (stringAt s at)) → (start : ℕ) × (stringAt s at ≡ Text.Bytes start r)
-  after-text e = go (stringAt s at) refl e
-    where
-      go : (t : Text) → stringAt s at ≡ t → r ≡ afterOf (textEnd t) → (start : ℕ) × (stringAt s at ≡ Text.Bytes start r)
-      go (Text.Bytes start k) q e = (start, q ∙ ap (λ (j : ℕ). Text.Bytes start j) (sym e))
-      go (Text.Fault f) q e = absurd (some e)
-
   pub after-number : (high : ℕ) → r ≡ afterPositive high (integerAt s at) → (z : ℤ) × (integerAt s at ≡ Number.Integer z r) × (within 1 high z ≡ true)
   after-number high e = go (integerAt s at) refl e
     where

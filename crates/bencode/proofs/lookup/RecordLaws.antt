@@ -74,6 +74,6 @@ pub found-here : (found : ℕ) (t : Bool) (end : ℕ) → found ≡ 0 → t ≡ 
 found-here zero t end e q = rw q refl
 found-here (suc found) t end e q = absurd (omega (arith, e))
 
-pub found-not : (found : ℕ) (t : Bool) (end : ℕ) → found ≡ 0 → t ≡ false → 0 ≡ foundAfter found t end
-found-not zero t end e q = rw q refl
-found-not (suc found) t end e q = absurd (omega (arith, e))
+pub found-not : (found : ℕ) (t : Bool) (end : ℕ) → t ≡ false → found ≡ foundAfter found t end
+found-not zero t end q = rw q refl
+found-not (suc found) t end q = refl

@@ -2,6 +2,7 @@
 -- Assumes nothing.
 use Prim.Native.Nat.{ℕ, _+_, _-_, _*_, _^_, _≤_, _<_}
 use mathlib.Core.Path.{_≡_, refl, sym, ap, _∙_}
+use mathlib.Core.Bool.{false}
 use mathlib.Core.List.{List}
 use native.Mathlib.Nat.{add-zero, pow-succ', pow-le-pow-right}
 use native.Mathlib.Numerals.{add-one}
@@ -12,8 +13,8 @@ use lib.IntN.{pos}
 use lib.ListN.{drop}
 use Rattle.octets.specs.declared.numerals.Decimal.{Decimal}
 use Rattle.octets.specs.Bytes.{byteAt}
-use Rattle.octets.specs.Numerals.{digits, digitsAt, numeralAt, capped}
-use Rattle.octets.proofs.digits.NumeralLaws.{digits-below, digits-above, digits-more, numeral-zero, numeral-digits, capped-fits}
+use Rattle.octets.specs.Numerals.{isDigit, digits, digitsAt, numeralAt, capped}
+use Rattle.octets.proofs.digits.NumeralLaws.{digits-stop, digits-above, digits-more, numeral-zero, numeral-digits, capped-fits}
 use Rattle.bencode.specs.declared.integers.Number.{Number}
 use Rattle.bencode.specs.declared.fault.Walk.{Walk}
 use Rattle.bencode.specs.Integers.{integerAt, numberEnd}
@@ -25,35 +26,29 @@ pub record Few (s : List ℕ) (from k n : ℕ) : Type 0 where
   pub below : n < 10 ^ k
   pub rest : digits n (from + k) (drop (from + k) s) ≡ digitsAt s from
 
--- what the reader promises
-abbrev pub Read : List ℕ → ℕ → Decimal → Type 0
+-- what is known where the digits end, or are as many as are read at once
+abbrev Read : List ℕ → ℕ → Decimal → Type 0
 Read s from r = (from ≤ r .end) × (r .end ≤ from + 18) × (r .number < 10 ^ 18) × (r .end < from + 18 → r ≡ digitsAt s from)
 
 module _ (s : List ℕ) (from : ℕ) where
   pub few-none : Few s from 0 0
   few-none = record { most = omega arith; below = omega arith; rest = rw (add-zero from) refl }
 
-  pub few-all : (k n : ℕ) → Few s from k n → 18 ≤ k → Read s from (record { end = from + 18; number = n })
+  few-all : (k n : ℕ) → Few s from k n → 18 ≤ k → Read s from (record { end = from + 18; number = n })
   few-all k n f h =
       let all : k ≡ 18 = omega (arith, f .most) in
       (omega arith, omega arith, rw all at (f .below), λ l. absurd (omega (arith, l)))
 
   module _ (k n : ℕ) (f : Few s from k n) (h : k < 18) where
     -- there is room for one more
-    pub few-room : n < 10 ^ 17
+    few-room : n < 10 ^ 17
     few-room =
         let l : k ≤ 17 = omega arith in
         let p : 10 ^ k ≤ 10 ^ 17 = pow-le-pow-right {n = 10} (omega arith) l in
         omega (arith, p, f .below)
 
-    few-read : record { end = from + k; number = n } ≡ digitsAt s from → Read s from (record { end = from + k; number = n })
-    few-read e = (omega arith, omega arith, omega (arith, few-room), λ _. e)
-
-    pub few-low : byteAt s (from + k) < 48 → Read s from (record { end = from + k; number = n })
-    few-low l = few-read (sym (digits-below n (from + k) s l) ∙ f .rest)
-
-    pub few-high : 57 < byteAt s (from + k) → Read s from (record { end = from + k; number = n })
-    few-high l = few-read (sym (digits-above n (from + k) s l) ∙ f .rest)
+    few-other : isDigit (byteAt s (from + k)) ≡ false → Read s from (record { end = from + k; number = n })
+    few-other o = (omega arith, omega arith, omega (arith, few-room), λ _. sym (digits-stop n (from + k) s o) ∙ f .rest)
 
     pub few-more : 48 ≤ byteAt s (from + k) → byteAt s (from + k) ≤ 57 → (m : ℕ) → m ≡ n * 10 + (byteAt s (from + k) - 48) → Few s from (k + 1) m
     few-more low high m e =
@@ -65,7 +60,7 @@ module _ (s : List ℕ) (from : ℕ) where
           rest = rw (e, next) (sym (digits-more n (from + k) s low high)) ∙ f .rest;
         }
 
--- ---- a reader that only counts the digits: some number goes with them, so that the laws above are its own too
+-- ---- a reader counts the digits only: some number goes with them
 abbrev pub Counted : List ℕ → ℕ → ℕ → Type 0
 Counted s from k = (n : ℕ) × Few s from k n
 
@@ -87,11 +82,8 @@ module _ (s : List ℕ) (from : ℕ) where
   counted-all k (n, f) h = read-end (record { end = from + 18; number = n }) (few-all s from k n f h)
 
   module _ (k : ℕ) (f : Counted s from k) (h : k < 18) where
-    pub counted-low : byteAt s (from + k) < 48 → Read-end s from (from + k)
-    counted-low l = read-end (record { end = from + k; number = f .0 }) (few-low s from k (f .0) (f .1) h l)
-
-    pub counted-high : 57 < byteAt s (from + k) → Read-end s from (from + k)
-    counted-high l = read-end (record { end = from + k; number = f .0 }) (few-high s from k (f .0) (f .1) h l)
+    pub counted-other : isDigit (byteAt s (from + k)) ≡ false → Read-end s from (from + k)
+    counted-other o = read-end (record { end = from + k; number = f .0 }) (few-other s from k (f .0) (f .1) h o)
 
     pub counted-more : 48 ≤ byteAt s (from + k) → byteAt s (from + k) ≤ 57 → Counted s from (k + 1)
     counted-more low high =

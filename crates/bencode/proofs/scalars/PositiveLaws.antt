@@ -29,9 +29,6 @@ module _ (s : List ℕ) (at high : ℕ) where
 
   -- ---- by its number
   module _ (n end : ℕ) (e : integerAt s at ≡ Number.Integer (pos n) end) where
-    pub number-low : n < 1 → 0 ≡ afterPositive high (integerAt s at)
-    number-low h = rw (e, lt-leb 1 n h) refl
-
     pub number-high : high < n → 0 ≡ afterPositive high (integerAt s at)
     number-high h = rw (e, lt-leb n high h, and-false (leb 1 n)) refl
 

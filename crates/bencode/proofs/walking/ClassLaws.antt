@@ -1,13 +1,13 @@
 -- Laws of the table of classes: what its one test says of each entry, and what a class says of a byte.
 -- Assumes nothing.
-use Prim.Native.Nat.{ℕ, zero, suc, _+_, _<_}
+use Prim.Native.Nat.{ℕ, zero, suc, _+_, _≤_, _<_}
 use mathlib.Core.Path.{_≡_, refl, sym, ap, _∙_}
 use mathlib.Core.Bool.{Bool, true, false, cond, _&&_, _||_}
 use mathlib.Core.List.{List, [], _∷_}
 use native.Mathlib.Nat.{add-zero, zero-add}
 use native.Mathlib.Omega.{arith}
-use borrow.Author.Tests.{eqb-true, eq-eqb, ne-eqb}
-use lib.Dec.{eqb}
+use borrow.Author.Tests.{eqb-true, eq-eqb, ne-eqb, leb-true}
+use lib.Dec.{eqb, leb}
 use lib.ListN.{getD}
 use Rattle.octets.specs.Numerals.{isDigit}
 use Rattle.octets.proofs.sequences.Order.{clash}
@@ -63,3 +63,21 @@ class-is c s b e = eqb-true b c (sym (sign-class c s b) ∙ eq-eqb (classOf b) c
 
 pub class-is-not : (c : ℕ) → isSign c ≡ true → (b : ℕ) → (classOf b ≡ c → ⊥) → b ≡ c → ⊥
 class-is-not c s b h e = h (eqb-true (classOf b) c (sign-class c s b ∙ eq-eqb b c e))
+
+-- ---- the digits have one class, which no other byte has
+digit-class : (b : ℕ) → eqb (classOf b) 48 ≡ isDigit b
+digit-class b = go (isDigit b) (isSign b) refl
+  where
+    no : isSign b ≡ true → b ≡ 48 → ⊥
+    no g e = clash (isSign b) g (ap isSign e)
+
+    go : (t : Bool) (u : Bool) → isSign b ≡ u → eqb (cond t 48 (cond u b 46)) 48 ≡ t
+    go true u g = refl
+    go false true g = ne-eqb b 48 (no g)
+    go false false g = refl
+
+pub digit-is : (b : ℕ) → classOf b ≡ 48 → (48 ≤ b) × (b ≤ 57)
+digit-is b e = let d = both (leb 48 b) (leb b 57) (sym (digit-class b) ∙ eq-eqb (classOf b) 48 e) in (leb-true 48 b (d .0), leb-true b 57 (d .1))
+
+pub digit-is-not : (b : ℕ) → (classOf b ≡ 48 → ⊥) → isDigit b ≡ false
+digit-is-not b h = sym (digit-class b) ∙ ne-eqb (classOf b) 48 h

@@ -5,6 +5,9 @@ use mathlib.Core.Path.{_≡_, refl, sym, ap, _∙_}
 use mathlib.Core.Bool.{true}
 use mathlib.Core.List.{List}
 use native.Mathlib.Omega.{arith}
+use native.Mathlib.Decide.{ℕ-discrete}
+use Prim.{Dec, yes, no}
+use borrow.Author.Tests.{eq-eqb, ne-eqb}
 use lib.IntN.{ℤ}
 use Rattle.bencode.specs.declared.fault.Fault.{Fault}
 use Rattle.bencode.specs.declared.fault.Walk.{Walk}
@@ -15,15 +18,15 @@ use Rattle.bencode.specs.declared.records.Noted.{Noted}
 use Rattle.octets.specs.Ascii.{ascii}
 use Rattle.octets.specs.Bytes.{byteAt}
 use Rattle.bencode.specs.Depth.{sublistLevels, recordLevels}
-use Rattle.bencode.specs.Fault.{afterOf}
 use Rattle.bencode.specs.Field.{fieldOf}
-use Rattle.bencode.specs.Integers.{within, integerAt, afterPositive}
+use Rattle.bencode.specs.Integers.{within, integerAt}
 use Rattle.bencode.specs.Loop.{Past}
 use Rattle.bencode.specs.Record.{notedAt}
+use Rattle.bencode.specs.Runs.{Run, none, more, TextAt, PositiveAt}
 use Rattle.bencode.specs.Skip.{skipRest}
-use Rattle.bencode.specs.Strings.{stringAt, textEnd}
 use Rattle.bencode.specs.Walk.{valueAt, listAt, dictionaryAt}
-use Rattle.bencode.proofs.lookup.ListLaws.{after-text, after-number, integer-value, string-value}
+use Rattle.bencode.proofs.lookup.ListLaws.{after-number}
+use Rattle.bencode.proofs.lookup.RunLaws.{text-bytes, text-value, text-no-end, positive-value, positive-no-end}
 use Rattle.bencode.proofs.lookup.NotedLaws.{noted-found, noted-missing, noted-fault, entry-integer, entry-rest}
 use Rattle.bencode.proofs.scalars.Ranges.{machine, same}
 use Rattle.bencode.proofs.walking.Ends.{integer-fits}
@@ -34,7 +37,7 @@ use Rattle.ipc.specs.declared.ids.OptionalId.{OptionalId}
 use Rattle.ipc.specs.declared.lists.ListCheck.{ListCheck}
 use Rattle.ipc.specs.Format.{endOfText, endById, endOfId, idEnd, torrentEnd, itemEnd, itemsEnd}
 use Rattle.ipc.specs.Ids.{largestId, torrentIdOf}
-use Rattle.ipc.specs.Lists.{hasId, isId, Listing}
+use Rattle.ipc.specs.Lists.{hasId, isId, endsAt, Listing}
 use Rattle.ipc.proofs.formats.FormatLaws.{items-last, items-more, torrent-field}
 
 -- the list from an offset on comes to the same as from another: as it is walked, and as it is held to its format
@@ -69,14 +72,36 @@ id-end : (z : ℤ) (end : ℕ) → within 1 largestId z ≡ true → endById end
 unfolding torrentIdOf
 id-end z end w = rw w refl
 
-module _ (p : List ℕ) (at r : ℕ) (some : r ≡ 0 → ⊥) where
-  pub text-fits : r ≡ afterOf (textEnd (stringAt p at)) → Fits Items.Texts p at r
+module _ (p : List ℕ) (at end : ℕ) where
+  text-fits : TextAt p at end → Fits Items.Texts p at end
   unfolding itemEnd
-  text-fits e = let t = after-text p at r some e in (string-value Profile.Loose sublistLevels p at (t .0) r (t .1), ap endOfText (t .1))
+  text-fits e = (text-value p Profile.Loose sublistLevels at end e, ap endOfText (text-bytes p at end e .1))
 
-  pub id-fits : r ≡ afterPositive largestId (integerAt p at) → Fits Items.Ids p at r
+  id-fits : PositiveAt largestId p at end → Fits Items.Ids p at end
   unfolding itemEnd idEnd
-  id-fits e = let n = after-number p at r some largestId e in (integer-value Profile.Loose sublistLevels p at (n .0) r (n .1), ap endOfId (n .1) ∙ id-end (n .0) r (n .2))
+  id-fits e =
+      let n = after-number p at end (λ z. omega (arith, e .0, z)) largestId (e .1) in
+      (positive-value largestId p Profile.Loose sublistLevels at end e, ap endOfId (n .1) ∙ id-end (n .0) end (n .2))
+
+-- items that stand one after another are passed one by one, and what stands after them decides
+module _ (items : Items) (p : List ℕ) (item : ℕ → ℕ → Type 0) (no-end : (at end : ℕ) → item at end → byteAt p at ≡ 101 → ⊥) (fits : (at end : ℕ) → item at end → Fits items p at end) (from : ℕ) where
+  run-goes : (at : ℕ) → Run item from at → Goes items p from at
+  run-goes at none = (refl, refl)
+  run-goes end (more at _ run e) = listing-on items p from at (run-goes at run) (no-end at end e) end (fits at end e)
+
+  run-listing : (at : ℕ) → Run item from at → Listing items p from (endsAt p at)
+  run-listing at run = go (ℕ-discrete (byteAt p at) 101)
+    where
+      go : Dec (byteAt p at ≡ 101) → Listing items p from (endsAt p at)
+      go (yes b) = rw (eq-eqb (byteAt p at) 101 b) (listing-end items p from at (run-goes at run) b)
+      go (no b) = rw (ne-eqb (byteAt p at) 101 b) (run-goes at run .0)
+
+module _ (p : List ℕ) (from at : ℕ) where
+  pub text-listing : Run (TextAt p) from at → Listing Items.Texts p from (endsAt p at)
+  text-listing run = run-listing Items.Texts p (TextAt p) (text-no-end p) (text-fits p) from at run
+
+  pub id-listing : Run (PositiveAt largestId p) from at → Listing Items.Ids p from (endsAt p at)
+  id-listing run = run-listing Items.Ids p (PositiveAt largestId p) (positive-no-end largestId p) (id-fits p) from at run
 
 -- ---- torrents
 -- whether a number is a torrent ID, as the machine has it

@@ -1,4 +1,4 @@
--- Laws of the listed keys. The table of the source is the list of the document: one computation, at `row_at` and at `key_number`.
+-- Laws of the listed keys. The table of the source is the list of the document: one computation, at `row_at` and at `key_of`.
 -- Assumes nothing.
 use Prim.Native.Nat.{ℕ, zero, suc, _-_, _≤_, _<_, max}
 use mathlib.Core.Path.{_≡_, refl, sym, ap, subst, _∙_}
@@ -6,12 +6,14 @@ use mathlib.Core.Bool.{Bool, true, false, cond}
 use mathlib.Core.List.{List, [], _∷_, map}
 use native.Mathlib.Nat.{le-of-suc-le-suc, not-suc-le-zero}
 use native.Mathlib.Omega.{arith}
-use lib.ListN.{length, getD, drop, take, replicate, List·getD-map, List·getD-eq-default, length-append, drop-of-length-le}
+use lib.ListN.{length, getD, drop, take, replicate, List·getD-map, List·getD-eq-default, length-append, length-take, drop-of-length-le}
 use lib.Seq.{drop-cons, take-at}
 use Rattle.octets.specs.Bytes.{same}
 use Rattle.octets.specs.Put.{Put}
 use Rattle.bencode.specs.Value.{encodeString}
 use Rattle.octets.specs.Ascii.{ascii}
+use Rattle.octets.proofs.sequences.Equality.{same-lengths}
+use Rattle.ipc.specs.declared.keys.Class.{Class}
 use Rattle.ipc.specs.declared.keys.KeyRow.{KeyRow}
 use Rattle.ipc.specs.Keys.{Listed, listed, unlisted, rowOf, rowAt, nameAt, numberFrom, keyNumber, listedAt, classOf, isWritten, keyText}
 
@@ -44,8 +46,20 @@ module _ (k : ℕ) (row : KeyRow) (e : row ≡ rowAt k) where
   unfolding rowAt
   table-fits = row-fits (getD listed k unlisted) row e
 
+  pub table-count : row .length ≡ length (take (row .length) (row .text))
+  table-count = omega (arith, length-take (row .length) (row .text), table-fits)
+
   pub table-same : (text : List ℕ) (t : Bool) → same (take (row .length) (row .text)) text ≡ t → same (nameAt k) text ≡ t
   table-same text t h = ap (λ (x : List ℕ). same x text) (sym table-name) ∙ h
+
+  -- a text of another length is not the row's
+  pub table-other : (text : List ℕ) → (row .length ≡ length text → ⊥) → same (nameAt k) text ≡ false
+  unfolding rowAt nameAt
+  table-other text h = same-lengths (nameAt k) text (λ q. h (ap (λ (r : KeyRow). r .length) e ∙ q))
+
+  pub table-class : row .class ≡ classOf (suc k)
+  unfolding rowAt classOf
+  table-class = ap (λ (r : KeyRow). r .class) e
 
 module _ (text : List ℕ) (k : ℕ) where
   number-step : k < 20 → numberFrom (suc k) (drop k listed) text ≡ cond (same (nameAt k) text) (suc k) (numberFrom (suc (suc k)) (drop (suc k) listed) text)
@@ -65,6 +79,10 @@ module _ (text : List ℕ) (k : ℕ) where
 pub number-all : (text : List ℕ) → numberFrom 1 (drop 0 listed) text ≡ keyNumber text
 unfolding keyNumber
 number-all text = refl
+
+pub class-none : Class.Unlisted ≡ classOf 0
+unfolding classOf
+class-none = refl
 
 -- the key of a number that is not 0
 pub listed-at : (n : ℕ) → (n ≡ 0 → ⊥) → listedAt n ≡ getD listed (n - 1) unlisted

@@ -30,10 +30,16 @@ add-text-place c =
     let a = c .before .before .before .before .before .before .args in
     omega (arith, inside (a .s .now) (a .at + 1) (omega (arith, c .before .byte-at2 .ensures)))
 
+cast-text-place : tie.Need-cast-text-place
+cast-text-place c = search needs
+
+sub-text-place : tie.Need-sub-text-place
+sub-text-place c = omega (arith, c .before .before .before .if1 .left)
+
 text-place-requires : tie.Need-text-place-requires
 text-place-requires c κs =
     let a = c .before .before .before .before .before .before .args in
-    omega (arith, inside (a .s .now) (a .at + 1) (omega (arith, c .before .byte-at2 .ensures)))
+    (omega (arith, inside (a .s .now) (a .at + 1) (omega (arith, c .before .byte-at2 .ensures))), omega (arith, c .before .before .if2 .left))
 
 returns-3 : tie.Need-returns-3
 returns-3 c h =
@@ -58,6 +64,8 @@ short-string-spec =
     add-byte-at
     byte-at-requires-2
     add-text-place
+    cast-text-place
+    sub-text-place
     text-place-requires
     returns-3
     two-digits-requires

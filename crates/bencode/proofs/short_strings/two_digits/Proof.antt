@@ -33,26 +33,28 @@ add-text-place c =
     let a = c .before .before .before .before .before .before .args in
     omega (arith, inside (a .s .now) (a .at + 2) (omega (arith, c .before .before .byte-at .ensures)))
 
-sub-text-place : tie.Need-sub-text-place
-sub-text-place c = search needs
-
 mul-text-place : tie.Need-mul-text-place
 mul-text-place c = search needs
 
 add-text-place-2 : tie.Need-add-text-place-2
 add-text-place-2 c = search needs
 
+sub-text-place : tie.Need-sub-text-place
+sub-text-place c = omega (arith, c .before .before .before .before .before .before .pre .1)
+
 text-place-requires : tie.Need-text-place-requires
 text-place-requires c κs =
     let a = c .before .before .before .before .before .before .args in
-    omega (arith, inside (a .s .now) (a .at + 2) (omega (arith, c .before .before .byte-at .ensures)))
+    let k = c .before .before .before .before .before .before .pre in
+    (omega (arith, inside (a .s .now) (a .at + 2) (omega (arith, c .before .before .byte-at .ensures))), omega (arith, k .2))
 
 returns-5 : tie.Need-returns-5
 returns-5 c h =
     let a = c .before .before .before .before .before .before .before .args in
     let k = c .before .before .before .before .before .before .before .pre in
     let p = c .text-place in
-    two-digits-text (a .s .now) (a .at) (a .a) (k .0) (k .1) (k .2) (c .before .if4 .left) (a .b) (k .3) (c .before .before .before .before .before .if1 .left) (c .before .before .before .before .if2 .left) (omega (arith, c .before .before .before .byte-at .ensures)) (p .result .start) (p .result .end) (p .ensures h)
+    let placed = p .ensures h in
+    two-digits-text (a .s .now) (a .at) (a .a) (k .0) (k .1) (k .2) (c .before .if4 .left) (a .b) (k .3) (c .before .before .before .before .before .if1 .left) (c .before .before .before .before .if2 .left) (omega (arith, c .before .before .before .byte-at .ensures)) (p .result .start) (p .result .end) (placed .0, omega (arith, placed .1, k .1), placed .2)
 
 pub two-digits-spec : {M : Type 1} → statement M
 two-digits-spec =
@@ -65,8 +67,8 @@ two-digits-spec =
     returns-3
     returns-4
     add-text-place
-    sub-text-place
     mul-text-place
     add-text-place-2
+    sub-text-place
     text-place-requires
     returns-5)

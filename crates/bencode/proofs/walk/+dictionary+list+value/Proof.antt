@@ -16,7 +16,6 @@ use Rattle.bencode.specs.declared.fault.Walk.{Walk}
 use Rattle.bencode.specs.declared.key.Seen.{Seen}
 use Rattle.bencode.specs.declared.strings.Text.{Text}
 use Rattle.bencode.specs.Strings.{stringAt, textEnd}
-use Rattle.bencode.specs.Scalar.{scalarAt}
 use Rattle.octets.specs.Bytes.{byteAt, slice}
 use Rattle.bencode.specs.Depth.{levelsLeft}
 use Rattle.bencode.specs.Entry.{entryAt}
@@ -24,7 +23,7 @@ use Rattle.bencode.specs.Record.{notedOf, endOf}
 use Rattle.bencode.specs.Walk.{valueAt, listAt, dictionaryAt, dictionaryFrom}
 use Rattle.octets.proofs.digits.NumeralLaws.{inside}
 use Rattle.bencode.proofs.walking.ClassLaws.{class-is, class-is-not}
-use Rattle.bencode.proofs.walking.Ends.{string-whole-inv, after-end}
+use Rattle.bencode.proofs.walking.Ends.{string-whole-inv}
 use Rattle.bencode.proofs.walking.WalkLaws.{value-ends, value-scalar, value-list, value-dictionary, value-deep-list, value-deep-dictionary, scalar-value, list-end, list-fault, list-more, dictionary-end, dictionary-no-key, dictionary-refused, dictionary-fault, dictionary-more}
 use Rattle.bencode.proofs.lookup.RecordLaws.{Looked, looked-more, noted-end, noted-fault, end-noted}
 use Rattle.bencode.proofs.walking.DepthLaws.{deeper-left, too-deep-left}
@@ -48,7 +47,8 @@ use Rattle.bencode.proofs.records.end_of.Reads as end-of-reads
 use Rattle.bencode.proofs.records.found_after.Reads as found-after-reads
 use Rattle.bencode.proofs.records.noted_end.Reads as noted-end-reads
 use Rattle.bencode.proofs.records.noted_key.Reads as noted-key-reads
-use Rattle.bencode.proofs.scalar.after_scalar.Reads as after-scalar-reads
+use Rattle.bencode.proofs.runs.quick_items.Reads as quick-items-reads
+use Rattle.bencode.proofs.scalar.quick_scalar.Reads as quick-scalar-reads
 use Rattle.bencode.proofs.scalar.scalar_end.Reads as scalar-end-reads
 use Rattle.bencode.proofs.strings.key_string.Reads as key-string-reads
 use Rattle.bencode.proofs.strings.string_end.Reads as string-end-reads
@@ -86,10 +86,10 @@ value-below t = and 2 value-kinds.ps (falls 2 value-kinds.ps _<_ μ-value t) val
 
 -- what each may ask and learn of the functions that it calls
 abbrev dictionary-calls : ℕ → dictionary-lts.Claims
-dictionary-calls t = (none-reads.Asked, none-reads.Learnt, class-at-reads.Asked, class-at-reads.Learnt, noted-end-reads.Asked, noted-end-reads.Learnt, key-string-reads.Asked, key-string-reads.Learnt, string-end-reads.Asked, string-end-reads.Learnt, noted-key-reads.Asked, noted-key-reads.Learnt, check-key-reads.Asked, check-key-reads.Learnt, found-after-reads.Asked, found-after-reads.Learnt, after-scalar-reads.Asked, after-scalar-reads.Learnt, value-below t, value.Post)
+dictionary-calls t = (none-reads.Asked, none-reads.Learnt, class-at-reads.Asked, class-at-reads.Learnt, noted-end-reads.Asked, noted-end-reads.Learnt, key-string-reads.Asked, key-string-reads.Learnt, string-end-reads.Asked, string-end-reads.Learnt, noted-key-reads.Asked, noted-key-reads.Learnt, check-key-reads.Asked, check-key-reads.Learnt, found-after-reads.Asked, found-after-reads.Learnt, quick-scalar-reads.Asked, quick-scalar-reads.Learnt, value-below t, value.Post)
 
 abbrev list-calls : ℕ → list-lts.Claims
-list-calls t = (class-at-reads.Asked, class-at-reads.Learnt, after-scalar-reads.Asked, after-scalar-reads.Learnt, value-below t, value.Post)
+list-calls t = (class-at-reads.Asked, class-at-reads.Learnt, quick-items-reads.Asked, quick-items-reads.Learnt, value-below t, value.Post)
 
 abbrev value-calls : ℕ → value-lts.Claims
 value-calls t = (class-at-reads.Asked, class-at-reads.Learnt, nested-reads.Asked, nested-reads.Learnt, list-below t, list.Post, dictionary-below t, dictionary.Post, end-of-reads.Asked, end-of-reads.Learnt, scalar-end-reads.Asked, scalar-end-reads.Learnt)
@@ -205,8 +205,8 @@ dictionary-found-after-requires t c κs =
     let w = string-whole-inv s (l .at) (k .0 .0) (k .0 .1 .0) text in
     (w .ordered, w .within)
 
-dictionary-after-scalar-requires : (t : ℕ) → dictionary-lts.Need-after-scalar-requires (dictionary-calls t) (dictionary-at t) dictionary.Post dictionary-Inv-loop dictionary-μ-loop
-dictionary-after-scalar-requires t c κs = tt
+dictionary-quick-scalar-requires : (t : ℕ) → dictionary-lts.Need-quick-scalar-requires (dictionary-calls t) (dictionary-at t) dictionary.Post dictionary-Inv-loop dictionary-μ-loop
+dictionary-quick-scalar-requires t c κs = c .before .before .before .before .before .before .before .before .before .before .before .before .before .before .before .pre .1 .1
 
 dictionary-loop-less : (t : ℕ) → dictionary-lts.Need-loop-less (dictionary-calls t) (dictionary-at t) dictionary.Post dictionary-Inv-loop dictionary-μ-loop
 dictionary-loop-less t c =
@@ -216,9 +216,9 @@ dictionary-loop-less t c =
     let l = c .before .before .before .before .before .before .before .before .before .before .before .before .before .loop in
     let k = c .before .before .before .before .before .before .before .before .start .given in
     let text : stringAt s (l .at) ≡ Text.Bytes (k .0 .0) (k .0 .1 .0) = sym (c .before .before .before .before .before .before .before .before .before .before .key-string .ensures) ∙ k .1 in
-    let v = scalar-value (a .profile) levels s (k .0 .1 .0) (c .before .after-scalar .result) (after-end (scalarAt s (k .0 .1 .0)) (c .before .after-scalar .result) (c .before .after-scalar .ensures) (c .if2 .taken)) in
+    let v = scalar-value (a .profile) levels s (k .0 .1 .0) (c .before .quick-scalar .result) (c .before .quick-scalar .ensures (omega (arith, c .if2 .taken))) in
     let w = string-whole-inv s (l .at) (k .0 .0) (k .0 .1 .0) text in
-    omega (arith, value-ends (a .profile) levels s (k .0 .1 .0) (c .before .after-scalar .result) v)
+    omega (arith, value-ends (a .profile) levels s (k .0 .1 .0) (c .before .quick-scalar .result) v)
 
 dictionary-loop-again : (t : ℕ) → dictionary-lts.Need-loop-again (dictionary-calls t) (dictionary-at t) dictionary.Post dictionary-Inv-loop dictionary-μ-loop
 dictionary-loop-again t c =
@@ -231,12 +231,12 @@ dictionary-loop-again t c =
     let text : stringAt s (l .at) ≡ Text.Bytes (k .0 .0) (k .0 .1 .0) = sym (c .before .before .before .before .before .before .before .before .before .before .key-string .ensures) ∙ k .1 in
     let n = c .before .before .before .before .next .given in
     let ok = key-allowed (a .profile) levels s (l .seen) (l .at) (l .inv .0) (l .inv .1) (k .0 .0) (k .0 .1 .0) text (n .0 .0) (sym (c .before .before .before .before .before .before .check-key .ensures) ∙ n .1) in
-    let v = scalar-value (a .profile) levels s (k .0 .1 .0) (c .before .after-scalar .result) (after-end (scalarAt s (k .0 .1 .0)) (c .before .after-scalar .result) (c .before .after-scalar .ensures) (c .if2 .taken)) in
-    let looked = looked-more (a .profile) levels s (a .key .now) (a .from) (l .at) (l .found) (l .inv .3) (k .0 .0) (k .0 .1 .0) (c .before .after-scalar .result) text v in (
+    let v = scalar-value (a .profile) levels s (k .0 .1 .0) (c .before .quick-scalar .result) (c .before .quick-scalar .ensures (omega (arith, c .if2 .taken))) in
+    let looked = looked-more (a .profile) levels s (a .key .now) (a .from) (l .at) (l .found) (l .inv .3) (k .0 .0) (k .0 .1 .0) (c .before .quick-scalar .result) text v in (
       slice s (k .0 .0) (k .0 .1 .0) ∷ l .inv .0,
-      ok .1 (c .before .after-scalar .result) v,
-      dictionary-more (a .profile) levels s (l .at) (l .inv .0) more (k .0 .0) (k .0 .1 .0) text (ok .0) (c .before .after-scalar .result) v ∙ l .inv .2,
-      subst (λ (x : ℕ). Looked s (a .key .now) (a .from) (c .before .after-scalar .result) x) (sym (c .before .before .found-after .ensures)) looked,
+      ok .1 (c .before .quick-scalar .result) v,
+      dictionary-more (a .profile) levels s (l .at) (l .inv .0) more (k .0 .0) (k .0 .1 .0) text (ok .0) (c .before .quick-scalar .result) v ∙ l .inv .2,
+      subst (λ (x : ℕ). Looked s (a .key .now) (a .from) (c .before .quick-scalar .result) x) (sym (c .before .before .found-after .ensures)) looked,
     )
 
 dictionary-value-requires : (t : ℕ) → dictionary-lts.Need-value-requires (dictionary-calls t) (dictionary-at t) dictionary.Post dictionary-Inv-loop dictionary-μ-loop
@@ -321,27 +321,17 @@ list-returns t c =
     let l = c .before .before .loop in
     list-end (a .profile) levels s (l .at) (class-is 101 refl (byteAt s (l .at)) (sym (c .before .class-at .ensures) ∙ c .if1 .taken)) ∙ l .inv
 
-list-after-scalar-requires : (t : ℕ) → list-lts.Need-after-scalar-requires (list-calls t) (list-at t) list.Post list-Inv-loop list-μ-loop
-list-after-scalar-requires t c κs = tt
+list-quick-items-requires : (t : ℕ) → list-lts.Need-quick-items-requires (list-calls t) (list-at t) list.Post list-Inv-loop list-μ-loop
+list-quick-items-requires t c κs = c .before .before .before .before .pre .1 .1
 
 list-loop-less : (t : ℕ) → list-lts.Need-loop-less (list-calls t) (list-at t) list.Post list-Inv-loop list-μ-loop
-list-loop-less t c =
-    let a = c .before .before .before .before .before .before .args in
-    let s = a .s .now in
-    let levels = levelsLeft (a .depth) in
-    let l = c .before .before .before .before .loop in
-    let v = scalar-value (a .profile) levels s (l .at) (c .before .after-scalar .result) (after-end (scalarAt s (l .at)) (c .before .after-scalar .result) (c .before .after-scalar .ensures) (c .if2 .taken)) in
-    omega (arith, value-ends (a .profile) levels s (l .at) (c .before .after-scalar .result) v)
+list-loop-less t c = omega (arith, c .before .quick-items .ensures .0 (c .if2 .taken))
 
 list-loop-again : (t : ℕ) → list-lts.Need-loop-again (list-calls t) (list-at t) list.Post list-Inv-loop list-μ-loop
 list-loop-again t c =
     let a = c .before .before .before .before .before .before .args in
-    let s = a .s .now in
-    let levels = levelsLeft (a .depth) in
     let l = c .before .before .before .before .loop in
-    let more = class-is-not 101 refl (byteAt s (l .at)) (λ e. c .before .before .if1 .left (c .before .before .before .class-at .ensures ∙ e)) in
-    let v = scalar-value (a .profile) levels s (l .at) (c .before .after-scalar .result) (after-end (scalarAt s (l .at)) (c .before .after-scalar .result) (c .before .after-scalar .ensures) (c .if2 .taken)) in
-    list-more (a .profile) levels s (l .at) more (c .before .after-scalar .result) v ∙ l .inv
+    c .before .quick-items .ensures .1 (a .profile) (levelsLeft (a .depth)) ∙ l .inv
 
 list-value-requires : (t : ℕ) → list-lts.Need-value-requires (list-calls t) (list-at t) list.Post list-Inv-loop list-μ-loop
 list-value-requires t c κs = (omega (arith, c .before .before .before .before .before .before .pre .0), c .before .before .before .before .before .before .pre .1)
@@ -501,7 +491,7 @@ pub +dictionary+list+value-spec : {M : Type 1} → statement M
     (dictionary-returns-3 t)
     (dictionary-enum-known-next t)
     (dictionary-found-after-requires t)
-    (dictionary-after-scalar-requires t)
+    (dictionary-quick-scalar-requires t)
     (dictionary-loop-less t)
     (dictionary-loop-again t)
     (dictionary-value-requires t)
@@ -520,7 +510,7 @@ pub +dictionary+list+value-spec : {M : Type 1} → statement M
     (list-class-at-requires t)
     (list-add-t12 t)
     (list-returns t)
-    (list-after-scalar-requires t)
+    (list-quick-items-requires t)
     (list-loop-less t)
     (list-loop-again t)
     (list-value-requires t)

@@ -16,6 +16,7 @@ use Rattle.bencode.proofs.walking.Ends.{string-whole-inv}
 use Rattle.ipc.specs.declared.keys.Class.{Class}
 use Rattle.ipc.specs.declared.message.ValueCheck.{ValueCheck}
 use Rattle.ipc.specs.Format.{formatted}
+use Rattle.ipc.specs.Keys.{classOf}
 use Rattle.ipc.specs.OnePass.{Valuing, keyedReading}
 use Rattle.ipc.proofs.frames.MessageLaws.{message-no-key, message-no-value}
 use Rattle.ipc.proofs.frames.OnePassLaws.{keyed-fault, keyed-listed}
@@ -42,35 +43,32 @@ unkeyed-requires c κs =
 returns : tie.Need-returns
 returns c = c .unkeyed .ensures
 
-sub-key-number : tie.Need-sub-key-number
-sub-key-number c =
+sub-key-of : tie.Need-sub-key-of
+sub-key-of c =
     let p = c .before .before .before .before .before .before .before .args .p .now in
     let k = c .before .before .before .start .given in
     let text : stringAt p 1 ≡ Text.Bytes (k .0 .0) (k .0 .1 .0) = sym (c .before .before .before .before .before .string .ensures) ∙ k .1 in
     let w = string-whole-inv p 1 (k .0 .0) (k .0 .1 .0) text in
     omega arith
 
-part-key-number-start : tie.Need-part-key-number-start
-part-key-number-start c =
+part-key-of-start : tie.Need-part-key-of-start
+part-key-of-start c =
     let p = c .before .before .before .before .before .before .before .args .p .now in
     let k = c .before .before .before .start .given in
     let text : stringAt p 1 ≡ Text.Bytes (k .0 .0) (k .0 .1 .0) = sym (c .before .before .before .before .before .string .ensures) ∙ k .1 in
     let w = string-whole-inv p 1 (k .0 .0) (k .0 .1 .0) text in
     omega arith
 
-part-key-number-end : tie.Need-part-key-number-end
-part-key-number-end c =
+part-key-of-end : tie.Need-part-key-of-end
+part-key-of-end c =
     let p = c .before .before .before .before .before .before .before .args .p .now in
     let k = c .before .before .before .start .given in
     let text : stringAt p 1 ≡ Text.Bytes (k .0 .0) (k .0 .1 .0) = sym (c .before .before .before .before .before .string .ensures) ∙ k .1 in
     let w = string-whole-inv p 1 (k .0 .0) (k .0 .1 .0) text in
     omega arith
 
-key-number-requires : tie.Need-key-number-requires
-key-number-requires c κs = search needs
-
-class-of-requires : tie.Need-class-of-requires
-class-of-requires c κs = search needs
+key-of-requires : tie.Need-key-of-requires
+key-of-requires c κs = search needs
 
 value-of-requires : tie.Need-value-of-requires
 value-of-requires c κs = search needs
@@ -80,21 +78,21 @@ enum-known-e c = search needs
 
 rest-requires : tie.Need-rest-requires
 rest-requires c κs =
-    let p = c .before .before .before .before .before .before .before .before .before .before .before .before .before .before .args .p .now in
-    let at = c .before .before .before .before .before .before .before .before .before .before .start .given .0 .1 .0 in
+    let p = c .before .before .before .before .before .before .before .before .before .before .before .before .before .args .p .now in
+    let at = c .before .before .before .before .before .before .before .before .before .start .given .0 .1 .0 in
     let e = c .before .e .given .0 .0 in
-    let v : Valuing (c .before .before .before .before .class-of .result) p at (ValueCheck.Fits e) = subst (λ (r : ValueCheck). Valuing (c .before .before .before .before .class-of .result) p at r) (c .before .e .given .1) (c .before .before .before .value-of .ensures) in
-    (v .0, c .before .before .before .before .before .before .before .before .before .before .before .before .before .before .pre .1, λ t. ap (λ (k : Class). formatted k p at e) (sym (c .before .before .before .before .class-of .ensures)) ∙ v .1)
+    let v : Valuing (c .before .before .before .before .key-of .result .class) p at (ValueCheck.Fits e) = subst (λ (r : ValueCheck). Valuing (c .before .before .before .before .key-of .result .class) p at r) (c .before .e .given .1) (c .before .before .before .value-of .ensures) in
+    (v .0, c .before .before .before .before .before .before .before .before .before .before .before .before .before .pre .1, λ t. ap (λ (k : Class). formatted k p at e) (ap classOf (c .before .before .before .before .key-of .ensures .0) ∙ sym (c .before .before .before .before .key-of .ensures .1)) ∙ v .1)
 
 enum-known-e-2 : tie.Need-enum-known-e-2
 enum-known-e-2 c = search needs
 
 rest-requires-2 : tie.Need-rest-requires-2
 rest-requires-2 c κs =
-    let p = c .before .before .before .before .before .before .before .before .before .before .before .before .before .before .args .p .now in
-    let at = c .before .before .before .before .before .before .before .before .before .before .start .given .0 .1 .0 in
-    let v : valueAt Profile.Loose listLevels p at ≡ Walk.End (c .before .e2 .given .0 .0) = subst (λ (r : ValueCheck). Valuing (c .before .before .before .before .class-of .result) p at r) (c .before .e2 .given .1) (c .before .before .before .value-of .ensures) in
-    (v, c .before .before .before .before .before .before .before .before .before .before .before .before .before .before .pre .1, λ t. clash false t refl)
+    let p = c .before .before .before .before .before .before .before .before .before .before .before .before .before .args .p .now in
+    let at = c .before .before .before .before .before .before .before .before .before .start .given .0 .1 .0 in
+    let v : valueAt Profile.Loose listLevels p at ≡ Walk.End (c .before .e2 .given .0 .0) = subst (λ (r : ValueCheck). Valuing (c .before .before .before .before .key-of .result .class) p at r) (c .before .e2 .given .1) (c .before .before .before .value-of .ensures) in
+    (v, c .before .before .before .before .before .before .before .before .before .before .before .before .before .pre .1, λ t. clash false t refl)
 
 enum-known-f : tie.Need-enum-known-f
 enum-known-f c = search needs
@@ -107,26 +105,26 @@ unkeyed-requires-2 c κs = (c .before .before .before .before .pre .0, sym (mess
 
 returns-2 : tie.Need-returns-2
 returns-2 c =
-    let p = c .before .before .before .before .before .before .before .before .before .before .before .before .before .before .before .args .p .now in
-    let k = c .before .before .before .before .before .before .before .before .before .before .before .start .given in
-    let text : stringAt p 1 ≡ Text.Bytes (k .0 .0) (k .0 .1 .0) = sym (c .before .before .before .before .before .before .before .before .before .before .before .before .before .string .ensures) ∙ k .1 in
-    c .rest .ensures ∙ ap (λ (n : ℕ). keyedReading p n (k .0 .1 .0)) (c .before .before .before .before .before .before .key-number .ensures) ∙ keyed-listed p (c .before .before .before .before .before .before .before .before .before .before .before .before .before .before .before .pre .0) (k .0 .0) (k .0 .1 .0) text (λ e. c .before .before .before .before .before .before .before .before .if1 .left (c .before .before .before .before .before .before .before .before .before .byte-at .ensures ∙ e))
+    let p = c .before .before .before .before .before .before .before .before .before .before .before .before .before .before .args .p .now in
+    let k = c .before .before .before .before .before .before .before .before .before .before .start .given in
+    let text : stringAt p 1 ≡ Text.Bytes (k .0 .0) (k .0 .1 .0) = sym (c .before .before .before .before .before .before .before .before .before .before .before .before .string .ensures) ∙ k .1 in
+    c .rest .ensures ∙ ap (λ (n : ℕ). keyedReading p n (k .0 .1 .0)) (c .before .before .before .before .before .key-of .ensures .0) ∙ keyed-listed p (c .before .before .before .before .before .before .before .before .before .before .before .before .before .before .pre .0) (k .0 .0) (k .0 .1 .0) text (λ e. c .before .before .before .before .before .before .before .if1 .left (c .before .before .before .before .before .before .before .before .byte-at .ensures ∙ e))
 
 returns-3 : tie.Need-returns-3
 returns-3 c =
-    let p = c .before .before .before .before .before .before .before .before .before .before .before .before .before .before .before .args .p .now in
-    let k = c .before .before .before .before .before .before .before .before .before .before .before .start .given in
-    let text : stringAt p 1 ≡ Text.Bytes (k .0 .0) (k .0 .1 .0) = sym (c .before .before .before .before .before .before .before .before .before .before .before .before .before .string .ensures) ∙ k .1 in
-    c .rest2 .ensures ∙ ap (λ (n : ℕ). keyedReading p n (k .0 .1 .0)) (c .before .before .before .before .before .before .key-number .ensures) ∙ keyed-listed p (c .before .before .before .before .before .before .before .before .before .before .before .before .before .before .before .pre .0) (k .0 .0) (k .0 .1 .0) text (λ e. c .before .before .before .before .before .before .before .before .if1 .left (c .before .before .before .before .before .before .before .before .before .byte-at .ensures ∙ e))
+    let p = c .before .before .before .before .before .before .before .before .before .before .before .before .before .before .args .p .now in
+    let k = c .before .before .before .before .before .before .before .before .before .before .start .given in
+    let text : stringAt p 1 ≡ Text.Bytes (k .0 .0) (k .0 .1 .0) = sym (c .before .before .before .before .before .before .before .before .before .before .before .before .string .ensures) ∙ k .1 in
+    c .rest2 .ensures ∙ ap (λ (n : ℕ). keyedReading p n (k .0 .1 .0)) (c .before .before .before .before .before .key-of .ensures .0) ∙ keyed-listed p (c .before .before .before .before .before .before .before .before .before .before .before .before .before .before .pre .0) (k .0 .0) (k .0 .1 .0) text (λ e. c .before .before .before .before .before .before .before .if1 .left (c .before .before .before .before .before .before .before .before .byte-at .ensures ∙ e))
 
 returns-4 : tie.Need-returns-4
 returns-4 c =
-    let p = c .before .before .before .before .before .before .before .before .before .before .before .before .before .before .args .p .now in
-    let k = c .before .before .before .before .before .before .before .before .before .before .start .given in
+    let p = c .before .before .before .before .before .before .before .before .before .before .before .before .before .args .p .now in
+    let k = c .before .before .before .before .before .before .before .before .before .start .given in
     let f = c .before .f .given .0 .0 in
-    let text : stringAt p 1 ≡ Text.Bytes (k .0 .0) (k .0 .1 .0) = sym (c .before .before .before .before .before .before .before .before .before .before .before .before .string .ensures) ∙ k .1 in
-    let v : valueAt Profile.Loose listLevels p (k .0 .1 .0) ≡ Walk.Fault f = subst (λ (r : ValueCheck). Valuing (c .before .before .before .before .class-of .result) p (k .0 .1 .0) r) (c .before .f .given .1) (c .before .before .before .value-of .ensures) in
-    keyed-fault p (c .before .before .before .before .before .key-number .result) (k .0 .1 .0) f v ∙ ap (λ (n : ℕ). keyedReading p n (k .0 .1 .0)) (c .before .before .before .before .before .key-number .ensures) ∙ keyed-listed p (c .before .before .before .before .before .before .before .before .before .before .before .before .before .before .pre .0) (k .0 .0) (k .0 .1 .0) text (λ e. c .before .before .before .before .before .before .before .if1 .left (c .before .before .before .before .before .before .before .before .byte-at .ensures ∙ e))
+    let text : stringAt p 1 ≡ Text.Bytes (k .0 .0) (k .0 .1 .0) = sym (c .before .before .before .before .before .before .before .before .before .before .before .string .ensures) ∙ k .1 in
+    let v : valueAt Profile.Loose listLevels p (k .0 .1 .0) ≡ Walk.Fault f = subst (λ (r : ValueCheck). Valuing (c .before .before .before .before .key-of .result .class) p (k .0 .1 .0) r) (c .before .f .given .1) (c .before .before .before .value-of .ensures) in
+    keyed-fault p (c .before .before .before .before .key-of .result .number) (k .0 .1 .0) f v ∙ ap (λ (n : ℕ). keyedReading p n (k .0 .1 .0)) (c .before .before .before .before .key-of .ensures .0) ∙ keyed-listed p (c .before .before .before .before .before .before .before .before .before .before .before .before .before .pre .0) (k .0 .0) (k .0 .1 .0) text (λ e. c .before .before .before .before .before .before .if1 .left (c .before .before .before .before .before .before .before .byte-at .ensures ∙ e))
 
 returns-5 : tie.Need-returns-5
 returns-5 c = c .unkeyed2 .ensures
@@ -140,11 +138,10 @@ message-spec =
     byte-at-requires
     unkeyed-requires
     returns
-    sub-key-number
-    part-key-number-start
-    part-key-number-end
-    key-number-requires
-    class-of-requires
+    sub-key-of
+    part-key-of-start
+    part-key-of-end
+    key-of-requires
     value-of-requires
     enum-known-e
     rest-requires

@@ -1,0 +1,25 @@
+-- `bencode::runs::quick_items` meets its contract: a list goes on after its strings and after its integers, and where it is.
+-- Assumes nothing.
+use borrow.Author.Needs.{needs}
+use Rattle.bencode.proofs.lookup.RunLaws.{text-run-list, positive-run-list}
+use Rattle.bencode.proofs.runs.quick_items.Statement.{statement}
+use Rattle.bencode.proofs.runs.quick_items.Tie as tie
+
+short-texts-requires : tie.Need-short-texts-requires
+short-texts-requires c κs = search needs
+
+returns : tie.Need-returns
+returns c = text-run-list (c .before .before .before .args .s .now) (c .before .before .before .args .at) (c .short-texts .result) (c .short-texts .ensures)
+
+plain-positives-requires : tie.Need-plain-positives-requires
+plain-positives-requires c κs = search needs
+
+returns-2 : tie.Need-returns-2
+returns-2 c = positive-run-list 9223372036854775807 (c .before .before .before .before .args .s .now) (c .before .before .before .before .args .at) (c .plain-positives .result) (c .plain-positives .ensures)
+
+returns-3 : tie.Need-returns-3
+returns-3 c = search needs
+
+pub quick-items-spec : {M : Type 1} → statement M
+quick-items-spec =
+    tie.close (tie.spec short-texts-requires returns plain-positives-requires returns-2 returns-3)
