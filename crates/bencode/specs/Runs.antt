@@ -23,6 +23,6 @@ TextAt s at end = textEnd (stringAt s at) ≡ Walk.End end
 abbrev pub PositiveAt : ℕ → List ℕ → ℕ → ℕ → Type 0
 PositiveAt high s at end = (0 < end) × (end ≡ afterPositive high (integerAt s at))
 
--- a list that goes on at an offset comes to what it comes to from another on, at any depth
+-- a list comes from an offset on to what it comes to from another on, at any depth
 abbrev pub ListOn : List ℕ → ℕ → ℕ → Type 0
-ListOn s at to = (at < to → to ≤ length s) × ((p : Profile) (levels : ℕ) → listAt p levels s to ≡ listAt p levels s at)
+ListOn s at to = (to ≤ length s) × ((p : Profile) (levels : ℕ) → listAt p levels s to ≡ listAt p levels s at)

@@ -10,6 +10,7 @@ ghost use Rattle.bencode.specs.Runs.{Run, TextAt, PositiveAt, ListOn};
 ghost use Rattle.bencode.specs.Strings.{stringAt, textEnd};
 use super::classes::classes;
 use super::integers::Number;
+use super::integers::after_integer;
 use super::positive_integers::after_positive;
 use super::positive_integers::plain_positive;
 use super::short_strings::short_string;
@@ -76,17 +77,21 @@ pub fn positives(s: &[u8], from: usize, high: u64) -> usize
     }
 }
 
-// The offset after short items of one kind from an offset of a list on, where a byte of a class stands; the offset itself for
-// other items.
+// The offset after strings or after integers from an offset of a list on, where a byte of a class stands. Where it is not past that
+// offset, this says nothing.
 pub fn quick_items(s: &[u8], at: usize, class: u8, classes: &[u8; 256]) -> usize
     requires { ⌜ isTable (now classes) ≡ true ⌝ }
-    ensures { λ r. ⌜ ListOn (now (s .entry)) at r ⌝ }
+    ensures { λ r. ⌜ (at < r → ListOn (now (s .entry)) at r) ⌝ }
 {
     if class == b'0' {
         return short_texts(s, at);
     }
     if class == b'i' {
-        return plain_positives(s, at, Number::LARGEST, classes);
+        let end = plain_positives(s, at, Number::LARGEST, classes);
+        if at < end {
+            return end;
+        }
+        return after_integer(s, at);
     }
     at
 }

@@ -2,16 +2,17 @@
 -- after them on.
 -- Assumes nothing.
 use Prim.Native.Nat.{ℕ, _<_, _≤_}
-use mathlib.Core.Path.{_≡_, refl, ap, _∙_}
+use mathlib.Core.Path.{_≡_, refl, sym, ap, _∙_}
 use mathlib.Core.List.{List}
 use native.Mathlib.Omega.{arith}
 use lib.ListN.{length}
 use Rattle.bencode.specs.declared.fault.Walk.{Walk}
+use Rattle.bencode.specs.declared.integers.Number.{Number}
 use Rattle.bencode.specs.declared.profile.Profile.{Profile}
 use Rattle.bencode.specs.declared.strings.Text.{Text}
 use Rattle.octets.specs.Bytes.{byteAt}
 use Rattle.bencode.specs.Fault.{afterOf}
-use Rattle.bencode.specs.Integers.{integerAt, afterPositive}
+use Rattle.bencode.specs.Integers.{integerAt, numberEnd, afterPositive}
 use Rattle.bencode.specs.Loop.{Past}
 use Rattle.bencode.specs.Runs.{Run, none, more, TextAt, PositiveAt, ListOn}
 use Rattle.bencode.specs.Strings.{stringAt, textEnd}
@@ -70,8 +71,8 @@ module _ (s : List ℕ) (item : ℕ → ℕ → Type 0) (ends : (at end : ℕ) �
   run-on p levels from to none = refl
   run-on p levels from to (more at end r i) = on p levels at end i ∙ run-on p levels from at r
 
-  pub run-list : (from to : ℕ) → Run item from to → ListOn s from to
-  run-list from to r = (run-within s item ends from to r, λ p levels. run-on p levels from to r)
+  run-list : (from to : ℕ) → Run item from to → from < to → ListOn s from to
+  run-list from to r l = (run-within s item ends from to r l, λ p levels. run-on p levels from to r)
 
 -- ---- a string
 pub text-more : (s : List ℕ) (at start end : ℕ) → stringAt s at ≡ Text.Bytes start end → TextAt s at end
@@ -106,8 +107,8 @@ text-value s p levels at end e = let t = text-bytes s at end e in string-value p
 pub text-list : (s : List ℕ) (p : Profile) (levels at end : ℕ) → TextAt s at end → listAt p levels s end ≡ listAt p levels s at
 text-list s p levels at end e = list-more p levels s at (text-no-end s at end e) end (text-value s p levels at end e)
 
-pub text-run-list : (s : List ℕ) (from to : ℕ) → Run (TextAt s) from to → ListOn s from to
-text-run-list s from to r = run-list s (TextAt s) (text-past s) (text-list s) from to r
+pub text-run-list : (s : List ℕ) (from to : ℕ) → Run (TextAt s) from to → from < to → ListOn s from to
+text-run-list s from to r l = run-list s (TextAt s) (text-past s) (text-list s) from to r l
 
 -- ---- an integer from 1 to another
 -- the offset after an integer, which is not 0
@@ -136,5 +137,16 @@ module _ (high : ℕ) (s : List ℕ) where
   pub positive-list : (p : Profile) (levels at end : ℕ) → PositiveAt high s at end → listAt p levels s end ≡ listAt p levels s at
   positive-list p levels at end e = list-more p levels s at (positive-no-end at end e) end (positive-value p levels at end e)
 
-  pub positive-run-list : (from to : ℕ) → Run (PositiveAt high s) from to → ListOn s from to
-  positive-run-list from to r = run-list s (PositiveAt high s) positive-past positive-list from to r
+  pub positive-run-list : (from to : ℕ) → Run (PositiveAt high s) from to → from < to → ListOn s from to
+  positive-run-list from to r l = run-list s (PositiveAt high s) positive-past positive-list from to r l
+
+-- ---- any integer, by the offset after it
+pub integer-list : (s : List ℕ) (at r : ℕ) → r ≡ afterOf (numberEnd (integerAt s at)) → at < r → ListOn s at r
+integer-list s at r e l = go (integerAt s at) refl e
+  where
+    go : (n : Number) → integerAt s at ≡ n → r ≡ afterOf (numberEnd n) → ListOn s at r
+    go (Number.Integer z k) q e =
+        let read : integerAt s at ≡ Number.Integer z r = q ∙ ap (λ (j : ℕ). Number.Integer z j) (sym e) in
+        let more : byteAt s at ≡ 101 → ⊥ = λ b. omega (arith, integer-first s at z r read, b) in
+        (omega (arith, integer-ends s at z r read), λ p levels. list-more p levels s at more r (integer-value p levels s at z r read))
+    go (Number.Fault f) q e = absurd (omega (arith, e, l))

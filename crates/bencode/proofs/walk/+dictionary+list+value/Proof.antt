@@ -325,13 +325,13 @@ list-quick-items-requires : (t : ℕ) → list-lts.Need-quick-items-requires (li
 list-quick-items-requires t c κs = c .before .before .before .before .pre .1 .1
 
 list-loop-less : (t : ℕ) → list-lts.Need-loop-less (list-calls t) (list-at t) list.Post list-Inv-loop list-μ-loop
-list-loop-less t c = omega (arith, c .before .quick-items .ensures .0 (c .if2 .taken))
+list-loop-less t c = omega (arith, c .before .quick-items .ensures (c .if2 .taken) .0)
 
 list-loop-again : (t : ℕ) → list-lts.Need-loop-again (list-calls t) (list-at t) list.Post list-Inv-loop list-μ-loop
 list-loop-again t c =
     let a = c .before .before .before .before .before .before .args in
     let l = c .before .before .before .before .loop in
-    c .before .quick-items .ensures .1 (a .profile) (levelsLeft (a .depth)) ∙ l .inv
+    c .before .quick-items .ensures (c .if2 .taken) .1 (a .profile) (levelsLeft (a .depth)) ∙ l .inv
 
 list-value-requires : (t : ℕ) → list-lts.Need-value-requires (list-calls t) (list-at t) list.Post list-Inv-loop list-μ-loop
 list-value-requires t c κs = (omega (arith, c .before .before .before .before .before .before .pre .0), c .before .before .before .before .before .before .pre .1)
