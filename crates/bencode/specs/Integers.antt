@@ -2,7 +2,8 @@
 -- offset of a fault are to be believed. Integers: `i`, an optional `-`, decimal digits, `e`; no leading zero, no `-0` (document
 -- 01, 'The frame').
 -- Assumes nothing.
-use Prim.Native.Nat.{ℕ, _+_, _^_, _<_}
+use Prim.Native.Nat.{ℕ, _+_, _-_, _^_, _≤_, _<_}
+use mathlib.Core.Path.{_≡_}
 use mathlib.Core.Bool.{Bool, true, false, cond, _&&_}
 use mathlib.Core.List.{List}
 use lib.IntN.{ℤ, pos, negℤ}
@@ -14,7 +15,7 @@ use Rattle.bencode.specs.declared.fault.Walk.{Walk}
 use Rattle.octets.specs.Bytes.{digit0, byteAt}
 use Rattle.bencode.specs.Letters.{letterE, letterI, minus}
 use Rattle.bencode.specs.Fault.{fault}
-use Rattle.octets.specs.Numerals.{numeralAt}
+use Rattle.octets.specs.Numerals.{digitsAt, numeralAt}
 
 -- an integer with a sign
 abbrev pub signed : Bool → ℕ → ℤ
@@ -62,6 +63,10 @@ integerAt s at =
 abbrev pub numberEnd : Number → Walk
 numberEnd (Number.Integer z end) = Walk.End end
 numberEnd (Number.Fault f) = Walk.Fault f
+
+-- digits from an offset on that end at another: their number is below one that is told, and not below the first digit
+abbrev pub BoundedDigits : List ℕ → ℕ → ℕ → ℕ → Type 0
+BoundedDigits s from end above = (end ≡ digitsAt s from .end) × (digitsAt s from .number < above) × (digitsAt s from .number < 10 ^ 10) × (from < end → byteAt s from - digit0 ≤ digitsAt s from .number)
 
 -- the offset after an integer from 1 to another, and 0 for any other and for a fault
 abbrev pub afterPositive : ℕ → Number → ℕ

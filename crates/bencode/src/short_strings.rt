@@ -25,7 +25,8 @@ fn text_place(s: &[u8], start: usize, number: usize) -> Place
     Place { start, end }
 }
 
-// The string at an offset, if its length has two digits: a is the first and b the byte after it.
+// The string at an offset, if its length has two digits: a is the first and b the byte after it. They are added up as words, since
+// the next offset waits for the sum; a byte is 48 above its digit, so ten times the one and the other are 528 above the length.
 fn two_digits(s: &[u8], at: usize, a: u8, b: u8) -> Place
     requires { ⌜ (a ≡ byteAt (now s) at) × (48 ≤ a) × (a ≤ 57) × (b ≡ byteAt (now s) (at + 1)) ⌝ }
     ensures { λ r. ⌜ (0 < r .end → stringAt (now (s .entry)) at ≡ Text.Bytes (r .start) (r .end)) ⌝ }

@@ -27,17 +27,13 @@ module _ (item : ℕ → ℕ → Type 0) where
   run-append from mid to r none = r
   run-append from mid to r (more at end q i) = more at end (run-append from mid at r q) i
 
-  -- one item more
-  pub run-more : (from at end : ℕ) → Run item from at → item at end → Run item from end
-  run-more from at end r i = more at end r i
-
 -- where a run comes to
-pub data Reach (s : List ℕ) (from to : ℕ) : Type 0 where
+data Reach (s : List ℕ) (from to : ℕ) : Type 0 where
   same : to ≡ from → Reach s from to
   past : Past s from to → Reach s from to
 
 module _ (s : List ℕ) (item : ℕ → ℕ → Type 0) (ends : (at end : ℕ) → item at end → Past s at end) where
-  pub run-past : (from to : ℕ) → Run item from to → Reach s from to
+  run-past : (from to : ℕ) → Run item from to → Reach s from to
   run-past from to none = same refl
   run-past from to (more at end r i) = go (run-past from at r) (ends at end i)
     where
@@ -54,7 +50,7 @@ module _ (s : List ℕ) (item : ℕ → ℕ → Type 0) (ends : (at end : ℕ) �
       go (past p) = omega (arith, p)
 
   -- a run that comes further right stays in the bytes
-  pub run-within : (from to : ℕ) → Run item from to → from < to → to ≤ length s
+  run-within : (from to : ℕ) → Run item from to → from < to → to ≤ length s
   run-within from to r l = go (run-past from to r)
     where
       go : Reach s from to → to ≤ length s
@@ -104,7 +100,7 @@ text-no-end s at end e b =
 pub text-value : (s : List ℕ) (p : Profile) (levels at end : ℕ) → TextAt s at end → valueAt p levels s at ≡ Walk.End end
 text-value s p levels at end e = let t = text-bytes s at end e in string-value p levels s at (t .0) end (t .1)
 
-pub text-list : (s : List ℕ) (p : Profile) (levels at end : ℕ) → TextAt s at end → listAt p levels s end ≡ listAt p levels s at
+text-list : (s : List ℕ) (p : Profile) (levels at end : ℕ) → TextAt s at end → listAt p levels s end ≡ listAt p levels s at
 text-list s p levels at end e = list-more p levels s at (text-no-end s at end e) end (text-value s p levels at end e)
 
 pub text-run-list : (s : List ℕ) (from to : ℕ) → Run (TextAt s) from to → from < to → ListOn s from to
@@ -134,7 +130,7 @@ module _ (high : ℕ) (s : List ℕ) where
       let n = after-number s at end (λ z. omega (arith, l, z)) high (e .1) in
       integer-value p levels s at (n .0) end (n .1)
 
-  pub positive-list : (p : Profile) (levels at end : ℕ) → PositiveAt high s at end → listAt p levels s end ≡ listAt p levels s at
+  positive-list : (p : Profile) (levels at end : ℕ) → PositiveAt high s at end → listAt p levels s end ≡ listAt p levels s at
   positive-list p levels at end e = list-more p levels s at (positive-no-end at end e) end (positive-value p levels at end e)
 
   pub positive-run-list : (from to : ℕ) → Run (PositiveAt high s) from to → from < to → ListOn s from to

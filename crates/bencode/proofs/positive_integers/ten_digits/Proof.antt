@@ -106,8 +106,7 @@ returns-2 c =
     let l = c .before .before .before .before .before .loop in
     let s = a .s .now in
     let f = a .from in
-    let e : pairAbove s f * 100000000 ≡ (c .before .before .wide .result * 10 + c .wide2 .result - 527) * 100000000 = omega (arith, c .before .before .wide .ensures, c .wide2 .ensures) in
-    subst (Bounds s f (f + 10)) e (tens-all s f (l .k) (l .inv) (c .before .before .before .before .loop-test .left))
+    subst (Bounds s f (f + 10)) {x = pairAbove s f * 100000000} (omega (arith, c .before .before .wide .ensures, c .wide2 .ensures)) (tens-all s f (l .k) (l .inv) (c .before .before .before .before .loop-test .left))
 
 pub ten-digits-spec : {M : Type 1} → statement M
 ten-digits-spec =

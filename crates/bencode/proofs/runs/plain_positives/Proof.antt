@@ -4,8 +4,8 @@ use Prim.Native.Nat.{_-_}
 use native.Mathlib.Omega.{arith}
 use lib.ListN.{length}
 use borrow.Author.Needs.{needs}
-use Rattle.bencode.specs.Runs.{Run, none, PositiveAt}
-use Rattle.bencode.proofs.lookup.RunLaws.{run-more, positive-more, positive-past}
+use Rattle.bencode.specs.Runs.{more, Run, none, PositiveAt}
+use Rattle.bencode.proofs.lookup.RunLaws.{positive-more, positive-past}
 use Rattle.bencode.proofs.runs.plain_positives.Statement.{statement}
 use Rattle.bencode.proofs.runs.plain_positives.Tie as tie
 
@@ -40,7 +40,7 @@ loop-again c =
     let at = c .before .before .loop .at in
     let r = c .before .plain-positive .result in
     let some = c .if1 .left in
-    run-more (PositiveAt high s) (c .before .before .before .before .args .from) at r (c .before .before .loop .inv) (positive-more high s at r some (c .before .plain-positive .ensures (omega (arith, some))))
+    more at r (c .before .before .loop .inv) (positive-more high s at r some (c .before .plain-positive .ensures (omega (arith, some))))
 
 pub plain-positives-spec : {M : Type 1} → statement M
 plain-positives-spec =

@@ -6,8 +6,8 @@ use mathlib.Core.Path.{sym, _∙_}
 use native.Mathlib.Omega.{arith}
 use lib.ListN.{length}
 use borrow.Author.Needs.{needs}
-use Rattle.bencode.specs.Runs.{Run, none, PositiveAt}
-use Rattle.bencode.proofs.lookup.RunLaws.{run-append, run-more, run-item-past, positive-more, positive-past}
+use Rattle.bencode.specs.Runs.{more, Run, none, PositiveAt}
+use Rattle.bencode.proofs.lookup.RunLaws.{run-append, run-item-past, positive-more, positive-past}
 use Rattle.bencode.proofs.runs.positives.Statement.{statement}
 use Rattle.bencode.proofs.runs.positives.Tie as tie
 
@@ -47,7 +47,7 @@ loop-again c =
     let from = c .before .before .before .before .before .before .before .args .from in
     let last = c .before .before .plain-positives .result in
     let r = c .before .after-positive .result in
-    run-more (PositiveAt high s) from last r (run-append (PositiveAt high s) from (c .before .before .before .before .loop .at) last (c .before .before .before .before .loop .inv) (c .before .before .plain-positives .ensures)) (positive-more high s last r (c .if1 .left) (c .before .after-positive .ensures))
+    more last r (run-append (PositiveAt high s) from (c .before .before .before .before .loop .at) last (c .before .before .before .before .loop .inv) (c .before .before .plain-positives .ensures)) (positive-more high s last r (c .if1 .left) (c .before .after-positive .ensures))
 
 pub positives-spec : {M : Type 1} → statement M
 positives-spec =

@@ -3,8 +3,8 @@
 use Prim.Native.Nat.{_-_}
 use native.Mathlib.Omega.{arith}
 use lib.ListN.{length}
-use Rattle.bencode.specs.Runs.{Run, none, TextAt}
-use Rattle.bencode.proofs.lookup.RunLaws.{run-more, text-more, text-past}
+use Rattle.bencode.specs.Runs.{more, Run, none, TextAt}
+use Rattle.bencode.proofs.lookup.RunLaws.{text-more, text-past}
 use Rattle.bencode.proofs.runs.short_texts.Statement.{statement}
 use Rattle.bencode.proofs.runs.short_texts.Tie as tie
 
@@ -37,7 +37,7 @@ loop-again c =
     let at = c .before .before .loop .at in
     let r = c .before .short-string .result in
     let some = c .if1 .left in
-    run-more (TextAt s) (c .before .before .before .before .args .from) at (r .end) (c .before .before .loop .inv) (text-more s at (r .start) (r .end) (c .before .short-string .ensures (omega (arith, some))))
+    more at (r .end) (c .before .before .loop .inv) (text-more s at (r .start) (r .end) (c .before .short-string .ensures (omega (arith, some))))
 
 pub short-texts-spec : {M : Type 1} → statement M
 short-texts-spec =

@@ -4,8 +4,8 @@ use Prim.Native.Nat.{_-_}
 use mathlib.Core.Path.{sym, _∙_}
 use native.Mathlib.Omega.{arith}
 use lib.ListN.{length}
-use Rattle.bencode.specs.Runs.{Run, none, TextAt}
-use Rattle.bencode.proofs.lookup.RunLaws.{run-append, run-more, run-item-past, text-after, text-past}
+use Rattle.bencode.specs.Runs.{more, Run, none, TextAt}
+use Rattle.bencode.proofs.lookup.RunLaws.{run-append, run-item-past, text-after, text-past}
 use Rattle.bencode.proofs.runs.texts.Statement.{statement}
 use Rattle.bencode.proofs.runs.texts.Tie as tie
 
@@ -40,7 +40,7 @@ loop-again c =
     let from = c .before .before .before .before .before .args .from in
     let last = c .before .before .short-texts .result in
     let r = c .before .after-string .result in
-    run-more (TextAt s) from last r (run-append (TextAt s) from (c .before .before .before .loop .at) last (c .before .before .before .loop .inv) (c .before .before .short-texts .ensures)) (text-after s last r (c .if1 .left) (c .before .after-string .ensures))
+    more last r (run-append (TextAt s) from (c .before .before .before .loop .at) last (c .before .before .before .loop .inv) (c .before .before .short-texts .ensures)) (text-after s last r (c .if1 .left) (c .before .after-string .ensures))
 
 pub texts-spec : {M : Type 1} → statement M
 texts-spec =
