@@ -1,6 +1,6 @@
 -- Which integers are read is pinned by `ReadsInteger` and `AcceptsExactly`; the range, `within`, `afterPositive`, and code and
--- offset of a fault are to be believed. Integers: `i`, an optional `-`, decimal digits, `e`; no leading zero, no `-0` (document
--- 01, 'The frame').
+-- offset of a fault are to be believed; `BoundedDigits` is pinned by the promise of `plain_positive`, and nothing public cites it.
+-- Integers: `i`, an optional `-`, decimal digits, `e`; no leading zero, no `-0` (document 01, 'The frame').
 -- Assumes nothing.
 use Prim.Native.Nat.{ℕ, _+_, _-_, _^_, _≤_, _<_}
 use mathlib.Core.Path.{_≡_}
@@ -15,7 +15,7 @@ use Rattle.bencode.specs.declared.fault.Walk.{Walk}
 use Rattle.octets.specs.Bytes.{digit0, byteAt}
 use Rattle.bencode.specs.Letters.{letterE, letterI, minus}
 use Rattle.bencode.specs.Fault.{fault}
-use Rattle.octets.specs.Numerals.{digitsAt, numeralAt}
+use Rattle.octets.specs.Numerals.{numeralAt}
 
 -- an integer with a sign
 abbrev pub signed : Bool → ℕ → ℤ
@@ -64,9 +64,10 @@ abbrev pub numberEnd : Number → Walk
 numberEnd (Number.Integer z end) = Walk.End end
 numberEnd (Number.Fault f) = Walk.Fault f
 
--- digits from an offset on that end at another: their number is below one that is told, and not below the first digit
-abbrev pub BoundedDigits : List ℕ → ℕ → ℕ → ℕ → Type 0
-BoundedDigits s from end above = (end ≡ digitsAt s from .end) × (digitsAt s from .number < above) × (digitsAt s from .number < 10 ^ 10) × (from < end → byteAt s from - digit0 ≤ digitsAt s from .number)
+-- digits from an offset on, which end at another: their number is below one that is told and below 10 ^ 10, and where there are
+-- some, not below the first
+abbrev pub BoundedDigits : List ℕ → ℕ → ℕ → ℕ → Decimal → Type 0
+BoundedDigits s from end above d = (end ≡ d .end) × (d .number < above) × (d .number < 10 ^ 10) × (from < end → byteAt s from - digit0 ≤ d .number)
 
 -- the offset after an integer from 1 to another, and 0 for any other and for a fault
 abbrev pub afterPositive : ℕ → Number → ℕ

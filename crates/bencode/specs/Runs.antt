@@ -1,4 +1,5 @@
--- `Run`, `TextAt` and `PositiveAt` are to be believed; `ListOn` is pinned by the promise of `list`, and nothing public cites it.
+-- `Run`, `TextAt` and `PositiveAt` are to be believed by callers of `texts` and `positives`; for frames they are pinned by ipc's
+-- `text_list` and `id_list`. `ListOn` is pinned by the promise of `list`, and nothing public cites it.
 -- Items of one kind that stand one after another in a list.
 -- Assumes nothing.
 use Prim.Native.Nat.{ℕ, _<_, _≤_}
@@ -25,6 +26,7 @@ TextAt s at end = textEnd (stringAt s at) ≡ Walk.End end
 abbrev pub PositiveAt : ℕ → List ℕ → ℕ → ℕ → Type 0
 PositiveAt high s at end = (0 < end) × (end ≡ afterPositive high (integerAt s at))
 
--- an offset is within the bytes, and a list comes from there on to what it comes to from another on, at any depth
+-- an offset is within the bytes, and a list comes from there on to what it comes to from another on, in any profile and at any
+-- depth
 abbrev pub ListOn : List ℕ → ℕ → ℕ → Type 0
 ListOn s at to = (to ≤ length s) × ((p : Profile) (levels : ℕ) → listAt p levels s to ≡ listAt p levels s at)

@@ -4,6 +4,7 @@ ghost use mathlib.Core.Bool.{true};
 ghost use Prim.Native.Nat.{_+_, _≤_, _<_};
 ghost use lib.ListN.{length};
 ghost use Rattle.octets.specs.Bytes.{byteAt};
+ghost use Rattle.octets.specs.Numerals.{digitsAt};
 ghost use Rattle.bencode.specs.Classes.{isTable};
 ghost use Rattle.bencode.specs.Integers.{BoundedDigits, integerAt, afterPositive};
 use super::classes::class_of;
@@ -34,7 +35,7 @@ pub struct Bounded {
 // one more for the others; each of the two is 48 too large as a byte.
 fn ten_digits(s: &[u8], from: usize, classes: &[u8; 256]) -> Bounded
     requires { ⌜ (from + 10 ≤ length (now s)) × (isTable (now classes) ≡ true) ⌝ }
-    ensures { λ r. ⌜ (from ≤ r .end) × (r .end ≤ from + 10) × (byteAt (now (s .entry)) (r .end) ≡ 101 → BoundedDigits (now (s .entry)) from (r .end) (r .above)) ⌝ }
+    ensures { λ r. ⌜ (from ≤ r .end) × (r .end ≤ from + 10) × (byteAt (now (s .entry)) (r .end) ≡ 101 → BoundedDigits (now (s .entry)) from (r .end) (r .above) (digitsAt (now (s .entry)) from)) ⌝ }
 {
     let mut k: usize = 0;
     while k < TEN {

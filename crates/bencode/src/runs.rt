@@ -84,7 +84,11 @@ pub fn quick_items(s: &[u8], at: usize, class: u8, classes: &[u8; 256]) -> usize
     ensures { λ r. ⌜ (at < r → ListOn (now (s .entry)) at r) ⌝ }
 {
     if class == b'0' {
-        return short_texts(s, at);
+        let end = short_texts(s, at);
+        if at < end {
+            return end;
+        }
+        return after_string(s, at);
     }
     if class == b'i' {
         let end = plain_positives(s, at, Number::LARGEST, classes);

@@ -57,7 +57,7 @@ pub fn value(s: &[u8], at: usize, depth: Depth, profile: Profile, classes: &[u8;
     scalar_end(s, at)
 }
 
-// The offset after the list whose values start at an offset. Strings of up to 99 bytes and integers need no call of `value`.
+// The offset after the list whose values start at an offset. Only a value that nests, or a fault, needs a call of `value`.
 pub fn list(s: &[u8], from: usize, depth: Depth, profile: Profile, classes: &[u8; 256]) -> Walk
     requires { ⌜ (depth .0 ≤ largestDepth) × (isTable (now classes) ≡ true) ⌝ }
     ensures { λ r. ⌜ r ≡ listAt profile (levelsLeft depth) (now (s .entry)) from ⌝ }

@@ -42,7 +42,7 @@ module _ (s : List ℕ) (item : ℕ → ℕ → Type 0) (ends : (at end : ℕ) �
       go (past p) q = past (omega (arith, p, q))
 
   -- a run does not come back
-  pub run-forward : (from to : ℕ) → Run item from to → from ≤ to
+  run-forward : (from to : ℕ) → Run item from to → from ≤ to
   run-forward from to r = go (run-past from to r)
     where
       go : Reach s from to → from ≤ to
@@ -106,6 +106,12 @@ text-list s p levels at end e = list-more p levels s at (text-no-end s at end e)
 pub text-run-list : (s : List ℕ) (from to : ℕ) → Run (TextAt s) from to → from < to → ListOn s from to
 text-run-list s from to r l = run-list s (TextAt s) (text-past s) (text-list s) from to r l
 
+-- any string, by the offset after it
+pub string-list : (s : List ℕ) (at r : ℕ) → r ≡ afterOf (textEnd (stringAt s at)) → at < r → ListOn s at r
+string-list s at r e l =
+    let t = text-after s at r (λ z. omega (arith, z, l)) e in
+    (omega (arith, text-past s at r t), λ p levels. text-list s p levels at r t)
+
 -- ---- an integer from 1 to another
 -- the offset after an integer, which is not 0
 pub positive-more : (high : ℕ) (s : List ℕ) (at r : ℕ) → (r ≡ 0 → ⊥) → r ≡ afterPositive high (integerAt s at) → PositiveAt high s at r
@@ -143,6 +149,6 @@ integer-list s at r e l = go (integerAt s at) refl e
     go : (n : Number) → integerAt s at ≡ n → r ≡ afterOf (numberEnd n) → ListOn s at r
     go (Number.Integer z k) q e =
         let read : integerAt s at ≡ Number.Integer z r = q ∙ ap (λ (j : ℕ). Number.Integer z j) (sym e) in
-        let more : byteAt s at ≡ 101 → ⊥ = λ b. omega (arith, integer-first s at z r read, b) in
-        (omega (arith, integer-ends s at z r read), λ p levels. list-more p levels s at more r (integer-value p levels s at z r read))
+        let no-end : byteAt s at ≡ 101 → ⊥ = λ b. omega (arith, integer-first s at z r read, b) in
+        (omega (arith, integer-ends s at z r read), λ p levels. list-more p levels s at no-end r (integer-value p levels s at z r read))
     go (Number.Fault f) q e = absurd (omega (arith, e, l))

@@ -14,7 +14,7 @@ use Rattle.octets.specs.Bytes.{byteAt}
 use Rattle.octets.specs.Numerals.{isDigit, digitsAt}
 use Rattle.octets.proofs.digits.NumeralLaws.{digits-stop, digits-below, digits-above}
 use Rattle.bencode.specs.declared.integers.Number.{Number}
-use Rattle.bencode.specs.Integers.{integerAt, afterPositive}
+use Rattle.bencode.specs.Integers.{BoundedDigits, integerAt, afterPositive}
 use Rattle.bencode.proofs.scalars.FewLaws.{Few, few-none, few-more, few-natural}
 use Rattle.bencode.proofs.scalars.PositiveLaws.{number-within}
 
@@ -39,11 +39,8 @@ abbrev pub Tens : List ℕ → ℕ → ℕ → Type 0
 Tens s from k = (n : ℕ) × Few s from k n × Lead s from k n
 
 -- what the reader promises
-abbrev pub Told : List ℕ → ℕ → ℕ → ℕ → Decimal → Type 0
-Told s from end above d = (end ≡ d .end) × (d .number < above) × (d .number < 10 ^ 10) × (from < end → byteAt s from - 48 ≤ d .number)
-
 abbrev pub Bounds : List ℕ → ℕ → ℕ → ℕ → Type 0
-Bounds s from end above = (from ≤ end) × (end ≤ from + 10) × (byteAt s end ≡ 101 → Told s from end above (digitsAt s from))
+Bounds s from end above = (from ≤ end) × (end ≤ from + 10) × (byteAt s end ≡ 101 → BoundedDigits s from end above (digitsAt s from))
 
 module _ (s : List ℕ) (from : ℕ) where
   pub tens-none : Tens s from 0
@@ -92,8 +89,8 @@ module _ (s : List ℕ) (from : ℕ) where
             let p : b * 10 ^ suc j ≡ b * 10 ^ j * 10 = ap (λ (i : ℕ). b * i) (pow-succ' 10 j ∙ mul-comm 10 (10 ^ j)) ∙ sym (mul-assoc b (10 ^ j) 10) in
             (t .0, omega (arith, t .1, p, low, high))
 
-  told : (k n above : ℕ) → Lead s from k n → record { end = from + k; number = n } ≡ digitsAt s from → n < above → n < 10 ^ 10 → Told s from (from + k) above (digitsAt s from)
-  told k n above l is h t = subst (Told s from (from + k) above) is (refl, h, t, λ i. l .first (omega (arith, i)) .1)
+  told : (k n above : ℕ) → Lead s from k n → record { end = from + k; number = n } ≡ digitsAt s from → n < above → n < 10 ^ 10 → BoundedDigits s from (from + k) above (digitsAt s from)
+  told k n above l is h t = subst (BoundedDigits s from (from + k) above) is (refl, h, t, λ i. l .first (omega (arith, i)) .1)
 
   module _ (k : ℕ) (t : Tens s from k) where
     -- the first two are digits
@@ -127,7 +124,7 @@ module _ (s : List ℕ) (from : ℕ) where
           (m, few-more s from k (t .0) (t .1) (omega arith) low high m refl, lead-more k (t .0) (t .2) h low high)
 
 -- ---- an integer of some digits, the first of which is no 0, and whose bound is at most another
-pub ten-positive : (s : List ℕ) (at high end above : ℕ) → Told s (at + 1) end above (digitsAt s (at + 1)) → byteAt s end ≡ 101 → byteAt s at ≡ 105 → (byteAt s (at + 1) ≡ 48 → ⊥) → (end ≡ at + 1 → ⊥) → at + 1 ≤ end → above ≤ high → end + 1 ≡ afterPositive high (integerAt s at)
+pub ten-positive : (s : List ℕ) (at high end above : ℕ) → BoundedDigits s (at + 1) end above (digitsAt s (at + 1)) → byteAt s end ≡ 101 → byteAt s at ≡ 105 → (byteAt s (at + 1) ≡ 48 → ⊥) → (end ≡ at + 1 → ⊥) → at + 1 ≤ end → above ≤ high → end + 1 ≡ afterPositive high (integerAt s at)
 ten-positive s at high end above (is, h, t, first) e i z o some l =
     let d = digitsAt s (at + 1) in
     let more : at + 1 < end = omega (arith, o, some) in

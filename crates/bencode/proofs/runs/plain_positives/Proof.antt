@@ -4,7 +4,7 @@ use Prim.Native.Nat.{_-_}
 use native.Mathlib.Omega.{arith}
 use lib.ListN.{length}
 use borrow.Author.Needs.{needs}
-use Rattle.bencode.specs.Runs.{more, Run, none, PositiveAt}
+use Rattle.bencode.specs.Runs.{Run, none, more, PositiveAt}
 use Rattle.bencode.proofs.lookup.RunLaws.{positive-more, positive-past}
 use Rattle.bencode.proofs.runs.plain_positives.Statement.{statement}
 use Rattle.bencode.proofs.runs.plain_positives.Tie as tie

@@ -6,7 +6,7 @@ use mathlib.Core.Path.{sym, _∙_}
 use native.Mathlib.Omega.{arith}
 use lib.ListN.{length}
 use borrow.Author.Needs.{needs}
-use Rattle.bencode.specs.Runs.{more, Run, none, PositiveAt}
+use Rattle.bencode.specs.Runs.{Run, none, more, PositiveAt}
 use Rattle.bencode.proofs.lookup.RunLaws.{run-append, run-item-past, positive-more, positive-past}
 use Rattle.bencode.proofs.runs.positives.Statement.{statement}
 use Rattle.bencode.proofs.runs.positives.Tie as tie

@@ -3,7 +3,7 @@
 use Prim.Native.Nat.{_-_}
 use native.Mathlib.Omega.{arith}
 use lib.ListN.{length}
-use Rattle.bencode.specs.Runs.{more, Run, none, TextAt}
+use Rattle.bencode.specs.Runs.{Run, none, more, TextAt}
 use Rattle.bencode.proofs.lookup.RunLaws.{text-more, text-past}
 use Rattle.bencode.proofs.runs.short_texts.Statement.{statement}
 use Rattle.bencode.proofs.runs.short_texts.Tie as tie

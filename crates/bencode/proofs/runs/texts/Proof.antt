@@ -4,7 +4,7 @@ use Prim.Native.Nat.{_-_}
 use mathlib.Core.Path.{sym, _∙_}
 use native.Mathlib.Omega.{arith}
 use lib.ListN.{length}
-use Rattle.bencode.specs.Runs.{more, Run, none, TextAt}
+use Rattle.bencode.specs.Runs.{Run, none, more, TextAt}
 use Rattle.bencode.proofs.lookup.RunLaws.{run-append, run-item-past, text-after, text-past}
 use Rattle.bencode.proofs.runs.texts.Statement.{statement}
 use Rattle.bencode.proofs.runs.texts.Tie as tie
