@@ -64,8 +64,8 @@ abbrev pub numberEnd : Number → Walk
 numberEnd (Number.Integer z end) = Walk.End end
 numberEnd (Number.Fault f) = Walk.Fault f
 
--- digits from an offset on, which end at another: their number is below one that is told and below 10 ^ 10, and where there are
--- some, not below the first
+-- what is told of d, the digits from an offset on: they end at another, their number is below `above` and below 10 ^ 10, and where
+-- there are some, not below the first
 abbrev pub BoundedDigits : List ℕ → ℕ → ℕ → ℕ → Decimal → Type 0
 BoundedDigits s from end above d = (end ≡ d .end) × (d .number < above) × (d .number < 10 ^ 10) × (from < end → byteAt s from - digit0 ≤ d .number)
 

@@ -31,8 +31,8 @@ isId (Number.Integer z end) = hasId (torrentIdOf z)
 isId (Number.Fault f) = false
 
 -- the list whose items before an offset are in their format: it ends there, or is given up there
-abbrev pub endsAt : List ℕ → ℕ → ListCheck
-endsAt p at = cond (eqb (byteAt p at) letterE) (ListCheck.Fits (at + 1)) (ListCheck.Off at)
+abbrev pub closedAt : List ℕ → ℕ → ListCheck
+closedAt p at = cond (eqb (byteAt p at) letterE) (ListCheck.Fits (at + 1)) (ListCheck.Off at)
 
 -- the list whose items start at an offset: it ends and every item is in its format; it is the list that goes on at another
 -- offset; or it has a fault

@@ -2,7 +2,7 @@
 ghost use mathlib.Core.Path.{_≡_};
 ghost use Rattle.bencode.specs.Integers.{integerAt};
 ghost use Rattle.ipc.specs.declared.format.Items.{Items};
-ghost use Rattle.ipc.specs.Lists.{endsAt, Listing, isId};
+ghost use Rattle.ipc.specs.Lists.{closedAt, Listing, isId};
 use super::ids::OptionalId;
 use super::ids::TorrentId;
 use bencode::Fault;
@@ -24,8 +24,8 @@ pub enum ListCheck {
 }
 
 // The list whose items before an offset are in their format: it ends there, or is given up there.
-fn ends_at(p: &[u8], at: usize) -> ListCheck
-    ensures { λ r. ⌜ r ≡ endsAt (now (p .entry)) at ⌝ }
+fn closed_at(p: &[u8], at: usize) -> ListCheck
+    ensures { λ r. ⌜ r ≡ closedAt (now (p .entry)) at ⌝ }
 {
     if byte_at(p, at) == b'e' {
         return ListCheck::Fits(at + 1);
@@ -37,14 +37,14 @@ fn ends_at(p: &[u8], at: usize) -> ListCheck
 pub fn text_list(p: &[u8], from: usize) -> ListCheck
     ensures { λ r. ⌜ Listing Items.Texts (now (p .entry)) from r ⌝ }
 {
-    ends_at(p, texts(p, from))
+    closed_at(p, texts(p, from))
 }
 
 // The list of torrent IDs whose items start at an offset.
 pub fn id_list(p: &[u8], from: usize) -> ListCheck
     ensures { λ r. ⌜ Listing Items.Ids (now (p .entry)) from r ⌝ }
 {
-    ends_at(p, positives(p, from, TorrentId::LARGEST as u64))
+    closed_at(p, positives(p, from, TorrentId::LARGEST as u64))
 }
 
 // Is a torrent ID at an offset.

@@ -37,7 +37,7 @@ use Rattle.ipc.specs.declared.ids.OptionalId.{OptionalId}
 use Rattle.ipc.specs.declared.lists.ListCheck.{ListCheck}
 use Rattle.ipc.specs.Format.{endOfText, endById, endOfId, idEnd, torrentEnd, itemEnd, itemsEnd}
 use Rattle.ipc.specs.Ids.{largestId, torrentIdOf}
-use Rattle.ipc.specs.Lists.{hasId, isId, endsAt, Listing}
+use Rattle.ipc.specs.Lists.{hasId, isId, closedAt, Listing}
 use Rattle.ipc.proofs.formats.FormatLaws.{items-last, items-more, torrent-field}
 
 -- the list from an offset on comes to the same as from another: as it is walked, and as it is held to its format
@@ -89,18 +89,18 @@ module _ (items : Items) (p : List ℕ) (item : ℕ → ℕ → Type 0) (no-end 
   run-goes at none = (refl, refl)
   run-goes end (more at _ run e) = listing-on items p from at (run-goes at run) (no-end at end e) end (fits at end e)
 
-  run-listing : (at : ℕ) → Run item from at → Listing items p from (endsAt p at)
+  run-listing : (at : ℕ) → Run item from at → Listing items p from (closedAt p at)
   run-listing at run = go (ℕ-discrete (byteAt p at) 101)
     where
-      go : Dec (byteAt p at ≡ 101) → Listing items p from (endsAt p at)
+      go : Dec (byteAt p at ≡ 101) → Listing items p from (closedAt p at)
       go (yes b) = rw (eq-eqb (byteAt p at) 101 b) (listing-end items p from at (run-goes at run) b)
       go (no b) = rw (ne-eqb (byteAt p at) 101 b) (run-goes at run .0)
 
 module _ (p : List ℕ) (from at : ℕ) where
-  pub text-listing : Run (TextAt p) from at → Listing Items.Texts p from (endsAt p at)
+  pub text-listing : Run (TextAt p) from at → Listing Items.Texts p from (closedAt p at)
   text-listing run = run-listing Items.Texts p (TextAt p) (text-no-end p) (text-fits p) from at run
 
-  pub id-listing : Run (PositiveAt largestId p) from at → Listing Items.Ids p from (endsAt p at)
+  pub id-listing : Run (PositiveAt largestId p) from at → Listing Items.Ids p from (closedAt p at)
   id-listing run = run-listing Items.Ids p (PositiveAt largestId p) (positive-no-end largestId p) (id-fits p) from at run
 
 -- ---- torrents

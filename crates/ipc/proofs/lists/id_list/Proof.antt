@@ -15,14 +15,14 @@ cast-positives c = search needs
 positives-requires : tie.Need-positives-requires
 positives-requires c κs = search needs
 
-ends-at-requires : tie.Need-ends-at-requires
-ends-at-requires c κs = search needs
+closed-at-requires : tie.Need-closed-at-requires
+closed-at-requires c κs = search needs
 
 returns : tie.Need-returns
 returns c =
     let a = c .before .before .before .args in
     let l = c .before .positives in
-    subst (λ (r : ListCheck). Listing Items.Ids (a .p .now) (a .from) r) (sym (c .ends-at .ensures)) (id-listing (a .p .now) (a .from) (l .result) (l .ensures .0))
+    subst (λ (r : ListCheck). Listing Items.Ids (a .p .now) (a .from) r) (sym (c .closed-at .ensures)) (id-listing (a .p .now) (a .from) (l .result) (l .ensures .0))
 
 pub id-list-spec : {M : Type 1} → statement M
-id-list-spec = tie.close (tie.spec cast-positives positives-requires ends-at-requires returns)
+id-list-spec = tie.close (tie.spec cast-positives positives-requires closed-at-requires returns)

@@ -12,14 +12,14 @@ use Rattle.ipc.proofs.lists.text_list.Tie as tie
 texts-requires : tie.Need-texts-requires
 texts-requires c κs = search needs
 
-ends-at-requires : tie.Need-ends-at-requires
-ends-at-requires c κs = search needs
+closed-at-requires : tie.Need-closed-at-requires
+closed-at-requires c κs = search needs
 
 returns : tie.Need-returns
 returns c =
     let a = c .before .before .before .args in
     let l = c .before .texts in
-    subst (λ (r : ListCheck). Listing Items.Texts (a .p .now) (a .from) r) (sym (c .ends-at .ensures)) (text-listing (a .p .now) (a .from) (l .result) (l .ensures .0))
+    subst (λ (r : ListCheck). Listing Items.Texts (a .p .now) (a .from) r) (sym (c .closed-at .ensures)) (text-listing (a .p .now) (a .from) (l .result) (l .ensures .0))
 
 pub text-list-spec : {M : Type 1} → statement M
-text-list-spec = tie.close (tie.spec texts-requires ends-at-requires returns)
+text-list-spec = tie.close (tie.spec texts-requires closed-at-requires returns)

@@ -1,4 +1,4 @@
--- `ipc::lists::ends_at` meets its contract.
+-- `ipc::lists::closed_at` meets its contract.
 -- Assumes nothing.
 use mathlib.Core.Path.{refl, sym, _∙_}
 use native.Mathlib.Omega.{arith}
@@ -6,8 +6,8 @@ use borrow.Author.Tests.{eq-eqb, ne-eqb}
 use borrow.Author.Needs.{needs}
 use Rattle.octets.specs.Bytes.{byteAt}
 use Rattle.octets.proofs.digits.NumeralLaws.{inside}
-use Rattle.ipc.proofs.lists.ends_at.Statement.{statement}
-use Rattle.ipc.proofs.lists.ends_at.Tie as tie
+use Rattle.ipc.proofs.lists.closed_at.Statement.{statement}
+use Rattle.ipc.proofs.lists.closed_at.Tie as tie
 
 byte-at-requires : tie.Need-byte-at-requires
 byte-at-requires c κs = search needs
@@ -21,5 +21,5 @@ returns c = sym (rw (eq-eqb (byteAt (c .before .before .before .args .p .now) (c
 returns-2 : tie.Need-returns-2
 returns-2 c = sym (rw (ne-eqb (byteAt (c .before .before .before .args .p .now) (c .before .before .before .args .at)) 101 (λ e. c .if1 .left (c .before .byte-at .ensures ∙ e))) refl)
 
-pub ends-at-spec : {M : Type 1} → statement M
-ends-at-spec = tie.close (tie.spec byte-at-requires add-t5 returns returns-2)
+pub closed-at-spec : {M : Type 1} → statement M
+closed-at-spec = tie.close (tie.spec byte-at-requires add-t5 returns returns-2)
