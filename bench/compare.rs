@@ -6,11 +6,16 @@ use crate::{proved, walker};
 const RANDOM_PAYLOADS: usize = 3_000_000;
 
 /// The alphabet of the short payloads, all of which are tried, and their greatest length.
-const ALPHABET: &[u8] = b"012-:ildea";
+const ALPHABET: &[u8] = b"012-:ildea\xff";
 const SHORT: usize = 6;
 
+/// Bytes about the ends of the ranges that UTF-8 has, of which all short keys are tried, and their greatest length.
+const TEXT_BYTES: &[u8] = b"\x00\x01a\x7f\x80\x8f\x90\x9f\xa0\xbf\xc0\xc1\xc2\xdf\
+    \xe0\xe1\xec\xed\xee\xef\xf0\xf1\xf3\xf4\xf5\xff";
+const SHORT_KEY: usize = 4;
+
 /// The codes that a walker can give.
-const CODES: [usize; 7] = [0, 5, 6, 7, 8, 9, 11];
+const CODES: [usize; 8] = [0, 5, 6, 7, 8, 9, 10, 11];
 
 /// Payloads with the answer that the rules give in the loose profile.
 const SAMPLES: &[(&str, u8, usize)] = &[
@@ -33,6 +38,10 @@ const SAMPLES: &[(&str, u8, usize)] = &[
     ("d1:b0:1:a0:1:b", 8, 11),
     ("di1ei1ee", 5, 1),
     ("d1:ae", 5, 4),
+    ("d1:\0", 10, 1),
+    ("d2:\0", 5, 4),
+    ("d1:a0:1:\01:a", 10, 6),
+    ("l1:\0e", 0, 5),
     ("d7:versiond3:mini1e3:maxi2eee", 0, 29),
     ("l5:startli8eei15", 5, 16),
     ("l5:startli8eei15ee", 0, 18),
@@ -50,6 +59,27 @@ const STRICT_SAMPLES: &[(&str, u8, usize)] = &[
     ("d1:a0:1:b0:1:a0:e", 8, 11),
     ("ld1:b0:1:a", 11, 7),
     ("ld1:b0:1:", 5, 9),
+    ("d1:b0:2:a\00:e", 10, 6),
+    ("d1:b0:1:a0:1:\00:e", 11, 6),
+];
+
+/// Keys, the only ones of a dictionary: text or not.
+const KEYS: &[(&[u8], bool)] = &[
+    (b"", true),
+    (b"\x7f", true),
+    (b"\x00", false),
+    (b"version\x00", false),
+    (b"na\xc3\xafve", true),
+    (b"na\xefve", false),
+    (b"download-speed\xff", false),
+    (b"a-key-of-more-than-two-words\xc3\xa4", true),
+    (b"a-key-of-more-than-two-words\xc3", false),
+    (b"\xc0\x80", false),
+    (b"\xed\x9f\xbf", true),
+    (b"\xed\xa0\x80", false),
+    (b"\xef\xbb\xbf", true),
+    (b"\xf4\x8f\xbf\xbf", true),
+    (b"\xf4\x90\x80\x80", false),
 ];
 
 struct Tally {
@@ -82,6 +112,7 @@ pub fn run() {
     };
     samples(&mut tally);
     short(&mut tally, &mut Vec::new());
+    short_keys(&mut tally, &mut Vec::new());
     levels(&mut tally);
     let mut random = Random(88_172_645_463_325_252);
     let mut payload = Vec::new();
@@ -104,6 +135,33 @@ fn samples(tally: &mut Tally) {
             assert_eq!(found, (*code, *offset), "sample {text}, strict {strict}");
             tally.check(text.as_bytes());
         }
+    }
+    for (key, text) in KEYS {
+        let payload = with_key(key);
+        let wanted = if *text { (0, payload.len()) } else { (10, 1) };
+        assert_eq!(walker::walk(&payload, false), wanted, "key {key:02x?}");
+        tally.check(&payload);
+    }
+}
+
+/// A dictionary with one key.
+fn with_key(key: &[u8]) -> Vec<u8> {
+    let mut payload = b"d".to_vec();
+    random::put_string(key, &mut payload);
+    payload.extend_from_slice(b"0:e");
+    payload
+}
+
+/// Each key of the bytes up to the greatest length.
+fn short_keys(tally: &mut Tally, key: &mut Vec<u8>) {
+    tally.check(&with_key(key));
+    if key.len() == SHORT_KEY {
+        return;
+    }
+    for &byte in TEXT_BYTES {
+        key.push(byte);
+        short_keys(tally, key);
+        key.pop();
     }
 }
 

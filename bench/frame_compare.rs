@@ -9,7 +9,7 @@ const RANDOM_FRAMES: usize = 2_000_000;
 const RANDOM_WRITES: usize = 1_000_000;
 
 /// The codes that the reader and the writers can give.
-const READER_CODES: [usize; 13] = [0, 1, 2, 3, 4, 5, 6, 7, 8, 9, 20, 21, 22];
+const READER_CODES: [usize; 14] = [0, 1, 2, 3, 4, 5, 6, 7, 8, 9, 10, 20, 21, 22];
 const WRITER_CODES: [usize; 6] = [0, 40, 41, 42, 43, 44];
 
 /// Frames with the code, offset and bytes used that the rules give.
@@ -26,6 +26,10 @@ const SAMPLES: &[(&str, u8, usize, usize)] = &[
     ("00000003i7e", 20, 0, 0),
     ("00000015i9223372036854775808e", 6, 0, 0),
     ("0000000Ed1:ai1e1:ai2ee", 8, 7, 0),
+    ("00000010d7:versioni1e1:\0", 10, 13, 0),
+    ("00000018l4:infold2:idi1e1:\00:eee", 10, 16, 0),
+    ("0000000Fl4:portd1:\00:ee", 10, 8, 0),
+    ("00000008l1:\01:\0e", 0, 0, 16),
     ("0000000Fl4:porti65536ee", 22, 0, 0),
     ("0000000Fl4:porti65535ee", 0, 0, 23),
 ];

@@ -150,7 +150,7 @@ pub fn value(random: &mut Random, levels: usize, out: &mut Vec<u8>) {
         _ => {
             out.push(b'd');
             for _ in 0..random.below(5) {
-                string(random, out);
+                random_keys::key(random, out);
                 value(random, levels - 1, out);
             }
             out.push(b'e');
@@ -179,16 +179,28 @@ fn numeral(random: &mut Random) -> String {
 
 fn string(random: &mut Random, out: &mut Vec<u8>) {
     if random.below(48) == 0 {
-        out.extend_from_slice(random.pick(LENGTHS).as_bytes());
-        return;
+        return bad_string(random, out);
     }
-    let length = if random.below(16) == 0 {
-        random.below(40)
-    } else {
-        random.below(4)
-    };
-    out.extend_from_slice(format!("{length}:").as_bytes());
-    for _ in 0..length {
-        out.push(random.byte(b"ab1e:\x00\xff"));
+    let text: Vec<u8> = (0..string_length(random))
+        .map(|_| random.byte(b"ab1e:\x00\xff"))
+        .collect();
+    put_string(&text, out);
+}
+
+/// A short length, with few exceptions.
+pub fn string_length(random: &mut Random) -> usize {
+    match random.below(16) {
+        0 => random.below(40),
+        _ => random.below(4),
     }
+}
+
+/// A string with a length in bad form, or with one that it does not have.
+pub fn bad_string(random: &mut Random, out: &mut Vec<u8>) {
+    out.extend_from_slice(random.pick(LENGTHS).as_bytes());
+}
+
+pub fn put_string(text: &[u8], out: &mut Vec<u8>) {
+    out.extend_from_slice(format!("{}:", text.len()).as_bytes());
+    out.extend_from_slice(text);
 }

@@ -1,7 +1,8 @@
 //! Random frames, the same in each run: of messages, handshakes and other payloads, most of them sound.
 
 use crate::frame_keys::{Format, KEYS};
-use crate::random::{self, Random};
+use crate::random::{self, put_string, Random};
+use crate::random_keys;
 
 /// Numbers at the edges of the limits.
 const EDGES: [i64; 12] = [
@@ -112,7 +113,8 @@ fn id(random: &mut Random) -> String {
     }
 }
 
-/// A dictionary that mostly has an `id`, at any place; rarely it has two, or one that is no torrent ID.
+/// A dictionary that mostly has an `id`, at any place; rarely it has two, or one that is no torrent ID, or a key that is no
+/// text.
 fn torrent(random: &mut Random, out: &mut Vec<u8>) {
     let keys = [
         "name",
@@ -120,17 +122,23 @@ fn torrent(random: &mut Random, out: &mut Vec<u8>) {
         "i",
         "idx",
         "ID",
-        "id\0",
+        "id\u{1}",
+        "\u{feff}id",
+        "gr\u{f6}\u{df}e",
         "download-speed",
         "download-total",
     ];
-    let mut keys: Vec<&str> = keys.into_iter().filter(|_| random.below(3) == 0).collect();
+    let mut keys: Vec<&str> = keys.into_iter().filter(|_| random.below(4) == 0).collect();
     let ids = [1, 1, 1, 1, 1, 1, 1, 1, 1, 1, 0, 2][random.below(12)];
     keys.extend(std::iter::repeat_n("id", ids));
     random.shuffle(&mut keys);
     out.push(b'd');
     for key in keys {
-        out.extend_from_slice(format!("{}:{key}", key.len()).as_bytes());
+        let mut text = key.as_bytes().to_vec();
+        if random.below(96) == 0 {
+            random_keys::spoil(random, &mut text);
+        }
+        put_string(&text, out);
         match random.below(12) {
             _ if key == "id" => identity(random, out),
             0 => random::value(random, 2, out),
@@ -158,11 +166,12 @@ fn identity(random: &mut Random, out: &mut Vec<u8>) {
 
 fn handshake(random: &mut Random, out: &mut Vec<u8>) {
     let (min, max) = (edge(random), edge(random));
-    let text = match random.below(4) {
-        0 => format!("d7:versioni{min}ee"),
-        1 => format!("d5:label1:x7:versiond3:maxi{max}e3:mini{min}eee"),
-        2 => format!("d7:versiond3:mini{min}e3:min0:ee"),
-        _ => format!("d7:versiond3:mini{min}e3:maxi{max}e1:xleee"),
+    let text = match random.below(9) {
+        0 | 1 => format!("d7:versioni{min}ee"),
+        2 | 3 => format!("d5:label1:x7:versiond3:maxi{max}e3:mini{min}eee"),
+        4 | 5 => format!("d7:versiond3:mini{min}e3:min0:ee"),
+        6 | 7 => format!("d2:\u{e9}0:7:versiond3:mini{min}e3:maxi{max}e1:xleee"),
+        _ => format!("d7:versiond3:mini{min}e3:maxi{max}e4:min\0leee"),
     };
     out.extend_from_slice(text.as_bytes());
 }

@@ -41,6 +41,7 @@ enum {
     BOGSILVER_DEPTH = 7,          /* a 17th level opens */
     BOGSILVER_REPEATED_KEY = 8,   /* a key comes twice in one dictionary */
     BOGSILVER_TRAILING = 9,       /* bytes follow the value */
+    BOGSILVER_NO_TEXT = 10,       /* a dictionary's key is not well-formed UTF-8, or has a zero byte */
     BOGSILVER_UNSORTED_KEY = 11,  /* of a strict walk alone: a key is not above the one before it */
     BOGSILVER_NO_MESSAGE = 20,    /* neither a message nor a dictionary */
     BOGSILVER_NO_HANDSHAKE = 21,  /* a dictionary that is no handshake */
@@ -115,12 +116,12 @@ struct bogsilver_answer {
     uint8_t kind;    /* 0 for every refusal, code 22 too */
     uint8_t key;     /* also for code 22 */
     uint32_t tag;    /* 0: none; also for code 22 */
-    size_t offset;   /* of the fault: for code 2 in the header, for 5 to 9 from the payload's start */
+    size_t offset;   /* of the fault: for code 2 in the header, for 5 to 10 from the payload's start */
     size_t consumed; /* the frame's bytes where it is accepted */
     struct bogsilver_content value;
 };
 
-/* Where a payload's fault is: its code, 5 to 9 or 11, and its offset; or 0 and the payload's length. */
+/* Where a payload's fault is: its code, 5 to 11, and its offset; or 0 and the payload's length. */
 struct bogsilver_walk_answer {
     uint8_t code;
     size_t offset;

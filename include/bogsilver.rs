@@ -25,6 +25,8 @@ pub const RANGE: u8 = 6;
 pub const DEPTH: u8 = 7;
 pub const REPEATED_KEY: u8 = 8;
 pub const TRAILING: u8 = 9;
+/// A key of a dictionary is not well-formed UTF-8, or has a zero byte.
+pub const NO_TEXT: u8 = 10;
 /// Of a strict walk alone.
 pub const UNSORTED_KEY: u8 = 11;
 pub const NO_MESSAGE: u8 = 20;
@@ -125,14 +127,14 @@ pub struct Answer {
     pub key: u8,
     /// 0 is none; also for code 22.
     pub tag: u32,
-    /// Of the fault: for code 2 in the header, for 5 to 9 from the payload's start.
+    /// Of the fault: for code 2 in the header, for 5 to 10 from the payload's start.
     pub offset: usize,
     /// The frame's bytes where it is accepted.
     pub consumed: usize,
     pub value: Content,
 }
 
-/// Where a payload's fault is: its code, 5 to 9 or 11, and its offset; or 0 and the payload's length.
+/// Where a payload's fault is: its code, 5 to 11, and its offset; or 0 and the payload's length.
 #[repr(C)]
 #[derive(Clone, Copy, Debug, PartialEq, Eq)]
 pub struct WalkAnswer {

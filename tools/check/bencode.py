@@ -22,7 +22,8 @@ MODES = ("Bencode lenient", "Bencode normal", "fastbencode")
 
 # Reasons for a payload that only the package accepts, by the oracle's code.
 ACCEPTED = {5: "length of a string over 32 bits wraps round",
-            6: "integer outside the range", 7: "17th level"}
+            6: "integer outside the range", 7: "17th level",
+            10: "key that is no text"}
 REFUSED = "keys not rising"
 
 

@@ -104,6 +104,7 @@ STORED = [
     b"l4:stoplee",
     b"l5:startli8ei8ei3eee",
     b"l12:x-vendor key" + b"d1:z0:1:ald1:bleeeee",
+    b"l2:\xff\x00d3:\xe2\x82\xac1:\xffee",
     b"l0:i-7ei5ee",
     b"l4:porti65536ei6ee",
     b"l9:succeeded0:i0ee",
@@ -114,6 +115,7 @@ STORED = [
     b"l" * 17 + b"e" * 17,
     b"d1:ai1e1:ai2ee",
     b"i7ex",
+    b"d2:\xc3\xa4i1e1:\xffi2ee",
     b"",
 ]
 
@@ -133,7 +135,10 @@ def random_value(rng, levels):
     if kind == 2:
         return b"l%se" % b"".join(random_value(rng, levels - 1)
                                   for _ in range(rng.randrange(4)))
-    keys = rng.sample([b"id", b"min", b"max", b"version", b"a", b""], 3)
+    keys = rng.sample([b"id", b"min", b"max", b"version", b"a", b"",
+                       b"\xc3\xa4"], 3)
+    if rng.randrange(16) == 0:
+        keys[0] = rng.choice((b"\xc3", b"a\x00"))
     return b"d%se" % b"".join(string(key) + random_value(rng, levels - 1)
                               for key in keys[:rng.randrange(4)])
 

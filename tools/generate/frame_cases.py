@@ -15,6 +15,8 @@ import struct
 import sys
 
 from generate.chance import Chance
+from generate.key_texts import (
+    CHOSEN, KEY_TEXTS, NO_KEYS, damaged, random_key, run)
 from generate.payload_cases import (
     BETWEEN, EXAMPLES, FAULTY, FRAMES, REPLACEMENTS, SCOPE, SOUND,
     dictionary, integer, listing, mutated, nested, random_text, random_value,
@@ -291,6 +293,108 @@ def level_frames():
                 yield hello(ranged(b"i1e", b"i2e", (b"a", value)))
 
 
+# Keys that are text, and keys that are none.
+
+ID = (b"id", b"i3e")
+
+
+def text_key_frames():
+    """Each text as a key, and as strings that are no keys of dictionaries."""
+    for text in KEY_TEXTS:
+        entry = (text, b"0:")
+        yield hello(b"i2e", entry)
+        yield message(b"info", listing(dictionary(entry, ID)))
+        yield message(b"status", listing(dictionary(ID, entry)), b"i9e")
+        yield message(b"noop", dictionary(entry))
+        yield message(text, string(text))
+        yield message(b"failed", string(text), b"i9e")
+        yield message(b"get-status-all", listing(string(text)))
+
+
+def text_key_handshakes():
+    for text in CHOSEN:
+        entry, inner = (text, b"i0e"), dictionary((text, b"i0e"))
+        least, most = (b"min", b"i1e"), (b"max", b"i2e")
+        yield frame(inner)
+        yield frame(dictionary(entry, (b"version", b"i2e")))
+        yield hello(b"i0e", entry)
+        yield hello(b"i2e", (b"x", inner))
+        yield hello(b"i2e", entry, entry)
+        yield hello(b"i2e", (b"version" + text, b"i0e"))
+        for order in itertools.permutations((least, most, entry)):
+            yield hello(dictionary(*order))
+        yield hello(ranged(b"i1e", b"i2e", (b"x", listing(inner))))
+        yield hello(ranged(b"i1e", b"i2e", (b"min" + text, b"i0e")))
+        yield hello(ranged(inner, b"i2e"))
+        yield hello(inner)
+
+
+def text_key_torrents():
+    for text in CHOSEN:
+        entry, inner = (text, b"i0e"), dictionary((text, b"i0e"))
+        name, good = (b"name", b"1:x"), dictionary(ID)
+        for order in itertools.permutations((name, ID, entry)):
+            yield message(b"status", listing(dictionary(*order)))
+        yield message(b"info", listing(dictionary(ID, (b"x", inner))))
+        yield message(b"info", listing(dictionary((b"x", listing(inner)), ID)))
+        yield message(b"info", listing(dictionary(ID, (b"id" + text, b"0:"))))
+        yield message(b"info", listing(dictionary((b"id", inner))))
+        yield message(b"info", listing(good, good, dictionary(ID, entry)))
+        yield message(b"info", listing(dictionary(entry, ID, name, entry)))
+        yield message(b"info", listing(dictionary(entry, (b"id", b"i0e"))))
+        for off in (b"i1e", b"0:", b"le", b"de", b"d2:idi0ee"):
+            yield message(b"info", listing(off, inner), b"i5e")
+        deep = nested("l" * 12, inner)
+        yield message(b"info", listing(dictionary((b"a", deep), ID)))
+
+
+def text_key_values():
+    """Values that are ignored, unlisted or off their format, and no values."""
+    for text in CHOSEN:
+        inner = dictionary((text, b"i0e"))
+        for key, _ in TABLE + [(b"x", "any")]:
+            yield message(key, inner, b"i7e")
+        for key in (b"succeeded", b"start", b"get-status-all", b"x", b"\xff"):
+            yield message(key, listing(inner))
+            yield message(key, listing(b"i0e", b"0:", inner))
+        yield message(b"port", b"i1e", inner)
+        yield message(b"noop", b"0:", b"i1e", inner)
+        yield message(b"noop", inner) + inner
+        yield frame(listing(inner))
+        yield frame(listing(inner, b"0:", b"i1e"))
+        for levels in (13, 14, 15):
+            yield message(b"x", nested("l" * levels, inner))
+        yield message(b"noop", nested("d" * 14, inner))
+
+
+def text_key_words():
+    """Bad bytes at every place of keys of several lengths, and sound keys
+    about strings of such bytes."""
+    for size in range(1, 18):
+        for at in range(size):
+            byte = (b"\x00", b"\xff", b"\x80", b"\xc3")[(size + at) % 4]
+            bad = (run(size)[:at] + byte + run(size)[at + 1:], b"0:")
+            yield message(b"info", listing(dictionary(bad, ID)))
+            yield message(b"info", listing(dictionary(ID, bad)))
+    for size, byte in itertools.product(range(18), (b"\x00", b"\xff")):
+        for value in (byte, byte * 8):
+            pairs = (run(size), string(value)), ID, (b"z", string(value))
+            yield message(b"info", listing(dictionary(*pairs)))
+            yield hello(b"i2e", *pairs)
+
+
+def text_key_cuts():
+    """Payloads that end in or after a key, whether or not bytes follow."""
+    for text in NO_KEYS + [b"\xc3\xa4", b"\xf0\x9f\x98\x80"]:
+        for whole in (hello(b"i2e", (text, b"0:")),
+                      message(b"info", listing(dictionary(ID, (text, b"0:")))),
+                      message(b"noop", dictionary((text, b"0:")))):
+            key = whole.index(string(text), 8)
+            for end in range(key, key + len(string(text)) + 1):
+                yield frame(whole[8:end])
+                yield frame(whole[8:end])[:8] + whole[8:]
+
+
 BAD_DIGITS = [bytes([b]) for b in b"/:@G`gxX -+_\x00\xb0\xff"]
 SMALL = [
     b"0000000Al4:noop0:e", b"00000012l5:startli8eei15ee",
@@ -443,6 +547,20 @@ def random_frames(chance, count):
             yield mutated(chance, mutated(chance, frame(payload)) or b"0")
 
 
+def random_text_frames(chance, count):
+    """Torrents and handshakes with characters of all lengths in keys."""
+    for number in range(count):
+        keys = [random_key(chance) for _ in range(1 + chance.below(3))]
+        for made in (keys, [damaged(chance, keys[0]), *keys[1:]]):
+            entries = chance.shuffled(
+                [ID, *((key, chance.pick(POOL[:40])) for key in made)])
+            payload = listing(b"4:info", listing(dictionary(*entries)))
+            if number % 3 == 0:
+                payload = dictionary((b"version", b"i2e"), *entries)
+            yield frame(payload)
+            yield frame(mutated(chance, payload))
+
+
 def changed_bytes(chance):
     """Each byte of small frames changed, lost or doubled."""
     for whole in SMALL[:5]:
@@ -461,6 +579,9 @@ def read_cases():
         payload_faults(), level_frames(), header_faults(), header_lengths(),
         cut_frames(), longest(chance), random_frames(chance, 700),
         changed_bytes(chance),
+        text_key_frames(), text_key_handshakes(), text_key_torrents(),
+        text_key_values(), text_key_words(), text_key_cuts(),
+        random_text_frames(chance, 120),
     ]
     for body in dict.fromkeys(itertools.chain(*groups)):
         yield b"r", body

@@ -14,10 +14,12 @@ import struct
 import sys
 
 from generate.chance import Chance
+from generate.key_texts import (
+    CHOSEN, KEY_TEXTS, MIDDLES, damaged, random_key, run)
 from oracle.payload import walk
 
 MAX_BODY = 131072
-SIZE_LIMIT = 1500000
+SIZE_LIMIT = 2000000
 
 
 # Encoders. They write what they are told, in that order, sound or not.
@@ -95,7 +97,8 @@ EXAMPLES = [
     b"9:succeeded0:", b"9:supportedl8:get-port6:lookupe", b"7:uplimiti20e",
 ]
 
-# Short payloads of all shapes; sound in the loose profile.
+# Short payloads of all shapes; sound in the loose profile, but for keys that
+# are no text in three of them.
 SOUND = [
     b"i0e", b"i7e", b"i-1e", b"i10e", b"i-90e", b"i9223372036854775807e",
     b"i-9223372036854775808e", b"0:", b"1:a", b"3:abc", b"1:\x00",
@@ -131,7 +134,7 @@ def named():
 
 
 def single_faults(chance):
-    """Each sound payload with one cut, one byte changed, added or lost."""
+    """Each short payload with one cut, one byte changed, added or lost."""
     for payload in SOUND:
         yield payload
         for at in range(len(payload)):
@@ -304,9 +307,9 @@ KEY_SETS = [
 VALUES = [b"i0e", b"0:", b"le", b"de"]
 
 
-def key_orders():
+def key_orders(sets):
     """All orders of 4 keys, plain and with each key again at each place."""
-    for keys in KEY_SETS:
+    for keys in sets:
         for order in itertools.permutations(keys):
             rows = [list(order)]
             for i in range(4):
@@ -387,6 +390,154 @@ def many_keys(chance, count):
         yield dictionary(*pairs[:-5], pairs[7], *pairs[-5:])
 
 
+# Keys that are text, and keys that are none.
+
+LAST_CHARACTER = b"\xf4\x8f\xbf\xbf"
+TEXT_KEY_SETS = [
+    [b"\x01", b"\x7f", b"\xc2\x80", b"\xc2\x80\x01"],
+    [b"\xdf\xbf", b"\xef\xbf\xbf", b"\xf0\x90\x80\x80", LAST_CHARACTER],
+]
+
+
+def text_key_pairs():
+    """Pairs of legal keys: the same twice, rising and falling by bytes."""
+    for one, two in itertools.product(
+            (b"", b"\x01", b"a\x01", b"\x7f", b"\xc2\x80", b"\xc3\xa4",
+             b"a\xcc\x88", b"a\xc3\xa4", b"\xef\xbb\xbf", b"\xef\xbb\xbfa",
+             b"\xef\xbf\xbf", b"\xf0\x90\x80\x80", LAST_CHARACTER), repeat=2):
+        yield dictionary((one, b"0:"), (two, b"0:"))
+
+
+def text_keys():
+    """Each text as a key at several places, and as a string that is none."""
+    for text in KEY_TEXTS:
+        entry = (text, b"0:")
+        inner = dictionary(entry)
+        yield inner
+        yield b"d" + string(text)
+        yield b"d" + string(text)[:-1]
+        yield dictionary((b"a", b"0:"), entry)
+        yield dictionary((b"b", b"0:"), (b"a" + text, b"0:"))
+        yield dictionary((LAST_CHARACTER, b"0:"), entry)
+        yield dictionary((b"k", inner))
+        yield listing(inner)
+        yield nested("l" * 15, inner)
+        yield string(text)
+        yield listing(string(text), string(text + b"d"))
+        yield dictionary((b"a", string(text)))
+
+
+def text_key_places():
+    """Some texts in dictionaries of messages and handshakes, and deep."""
+    for text in CHOSEN:
+        entry, inner = (text, b"i0e"), dictionary((text, b"i0e"))
+        name, id = (b"name", b"1:x"), (b"id", b"i3e")
+        for order in itertools.permutations((name, id, entry)):
+            yield listing(b"4:info", listing(dictionary(*order)))
+        yield listing(b"6:status", listing(dictionary(id), inner), b"i7e")
+        yield dictionary((b"version", b"i2e"), entry)
+        yield dictionary(entry, (b"version", b"i2e"))
+        yield dictionary((b"version", dictionary(
+            (b"min", b"i1e"), entry, (b"max", b"i2e"))))
+        yield listing(b"4:noop", inner, b"i1e")
+        yield listing(string(text), inner)
+        for kinds in ("d" * 15, "dl" * 7 + "d", "d" * 16, "l" * 16):
+            yield nested(kinds, inner)
+        yield nested("d" * 15, dictionary((text, b"le")))
+        yield listing(dictionary(id), dictionary(entry), dictionary(entry))
+        yield dictionary((b"a", string(text)), entry, (b"z", string(text)))
+
+
+def text_key_order():
+    """10 against the other faults, earlier and later ones."""
+    for bad in (b"\xff", b"a\x00", b"\xe2\x82", b"\xed\xa0\x80b"):
+        for order in itertools.permutations((b"a", b"b", bad)):
+            for again in (*order, b""):
+                yield dictionary(*((k, b"i0e") for k in (*order, again)))
+                yield dictionary(*((k, b"de") for k in (again, *order)))
+        yield dictionary((bad, b"0:"), (bad, b"0:"))
+        yield dictionary((bad + b"a", b"0:"), (bad, b"0:"))
+        inner = dictionary((bad, b"0:"))
+        for faulty in FAULTY:
+            yield dictionary((bad, faulty))
+            yield dictionary((b"a", faulty), (bad, b"0:"))
+            yield dictionary((b"b", b"0:"), (b"a" + bad, faulty))
+            yield listing(inner, faulty)
+            yield listing(faulty, inner)
+            yield inner + faulty
+        whole = dictionary((b"b", b"i1e"), (b"a" + bad, b"i2e"))
+        for size in range(len(whole)):
+            yield whole[:size]
+            yield b"l" + whole[:size] + b"e"
+        for size in (len(bad) + 1, len(bad) + 2**32, len(bad) + 2**64):
+            yield b"d%d:%s" % (size, bad)
+        yield b"d0%d:%s0:e" % (len(bad), bad)
+        yield b"d-%d:%s0:e" % (len(bad), bad)
+        yield b"d%d;%s0:e" % (len(bad), bad)
+
+
+def text_key_words():
+    """Bad bytes at every place of keys of all lengths, characters between
+    runs of ASCII of all lengths and parted by them, and long keys."""
+    for size in range(1, 41):
+        text = run(size)
+        for at in range(size):
+            byte = (b"\x00", b"\xff", b"\x80", b"\xc3")[(size + at) % 4]
+            bad = text[:at] + byte + text[at + 1:]
+            yield dictionary((bad, b"0:"))
+            if size < 18:
+                yield b"d" + string(bad)
+                yield dictionary((b"a", string(b"x" * at)), (bad, b"de"))
+        yield dictionary((text, b"0:"))
+        yield b"d" + string(text)
+    for before, after in itertools.product(range(25), repeat=2):
+        middle = MIDDLES[(before + 5 * after) % len(MIDDLES)]
+        yield dictionary((run(before) + middle + run(after), b"0:"))
+    for middle, before in itertools.product(MIDDLES, range(25)):
+        yield b"d" + string(run(before) + middle)
+        yield dictionary((run(before) + middle, b"i0e"), (b"z", b"0:"))
+    for whole in (b"\xc3\xa4", b"\xe2\x82\xac", b"\xf0\x9f\x98\x80"):
+        for cut, size in itertools.product(range(1, len(whole)), range(18)):
+            yield dictionary((whole[:cut] + run(size) + whole[cut:], b"0:"))
+    for size in (99, 100, 101, 1000):
+        yield dictionary((run(size), b"0:"))
+        for at in (0, size // 2, size - 4):
+            for middle in (b"\x00", b"\xff", LAST_CHARACTER):
+                end = at + len(middle)
+                text = run(size)[:at] + middle + run(size)[end:]
+                yield dictionary((text, b"0:"))
+        yield dictionary((run(size - 1) + b"\xff", b"0:"))
+
+
+def text_key_neighbours():
+    """Sound keys about strings of bytes that no key has."""
+    for size, byte in itertools.product(range(18), (b"\x00", b"\xff")):
+        key = run(size)
+        for value in (byte, byte * 2, byte * 7, byte * 8, byte * 9):
+            yield dictionary((key, string(value)), (b"z", string(value)))
+        yield dictionary((b"", string(byte * size)), (key + b"\xc3\xa4",
+                                                    string(byte)))
+        yield listing(string(byte * size), dictionary((key, b"0:")),
+                      string(byte))
+        yield listing(string(byte), dictionary((key, byte)))
+
+
+def random_text_keys(chance, count):
+    """Random dictionaries with characters of all lengths in their keys."""
+    for _ in range(count):
+        keys = [random_key(chance) for _ in range(1 + chance.below(4))]
+        values = [chance.pick((*VALUES, b"1:\xff", b"d2:\xc3\xa40:e"))
+                  for _ in keys]
+        kinds = "".join(chance.pick("ld") for _ in range(chance.below(3)))
+        yield nested(kinds, dictionary(*zip(keys, values)))
+        yield nested(kinds, dictionary(*zip(sorted(set(keys)), values)))
+        at = chance.below(len(keys))
+        keys[at] = damaged(chance, keys[at])
+        payload = nested(kinds, dictionary(*zip(keys, values)))
+        yield payload
+        yield mutated(chance, payload)
+
+
 def trailing():
     for value in (b"i0e", b"i-5e", b"i9223372036854775807e", b"0:", b"1:a",
                   b"3:\x00\xff:", b"le", b"li1ee", b"de", b"d1:ai1ee",
@@ -400,7 +551,8 @@ def trailing():
 # Random payloads.
 
 def random_value(chance, room):
-    """A value that is sound in the loose profile; room bounds its size."""
+    """A value that is sound in the loose profile, unless a key is no text;
+    room bounds its size."""
     kind = chance.below(7)
     if kind < 2 or room < 2:
         size = 10 ** chance.below(19)
@@ -479,15 +631,25 @@ def profiles(payloads):
             yield b"ls"[number % 2:][:1], payload
 
 
+def by_turns(payloads):
+    """One profile for each payload."""
+    for number, payload in enumerate(payloads):
+        yield b"ls"[number % 2:][:1], payload
+
+
 def all_cases():
     chance = Chance(0x9E3779B97F4A7C15)
     groups = [
         named(), single_faults(chance), levels(chance), branches(), lengths(),
-        integers(), range_order(), key_orders(), key_faults(), key_scopes(),
-        many_keys(chance, 200), many_keys(chance, 20), trailing(),
-        random_payloads(chance, 2000), large(chance),
+        integers(), range_order(), key_orders(KEY_SETS), key_faults(),
+        key_scopes(), many_keys(chance, 200), many_keys(chance, 20),
+        trailing(), random_payloads(chance, 2000), large(chance),
+        key_orders(TEXT_KEY_SETS), text_key_pairs(), text_keys(),
+        text_key_places(), text_key_order(), text_key_neighbours(),
+        random_text_keys(chance, 150),
     ]
-    return dict.fromkeys(profiles(itertools.chain(*groups)))
+    return dict.fromkeys(itertools.chain(
+        profiles(itertools.chain(*groups)), by_turns(text_key_words())))
 
 
 def main(folder):

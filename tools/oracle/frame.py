@@ -4,7 +4,7 @@ read(data) gives an Answer: code, offset, consumed, kind (m message,
 h handshake, - none), key number, tag and value. The value is written as
 `-` nothing, `iN` integer, `tOFFSET,LENGTH` text, `pOFFSET,LENGTH` list or
 unlisted value, `hMIN,MAX` handshake. Value offsets count from the frame's
-first byte, those of faults 5 to 9 from the payload's.
+first byte, those of faults 5 to 10 from the payload's.
 
 write and write_handshake give code, count and frame; agreed gives a version.
 line(operation, body) is the line that the conformance program prints.
@@ -299,6 +299,19 @@ READINGS = [
     (b"0000000Ed7:versioni3ee", "0 0 22 h 0 0 h3,3"),
     (b"00000013l4:infold2:idi5eeee", "0 0 27 m 10 0 p15,11"),
     (b"00000013l4:infold2:idi0eeee", "22 0 0 m 10 0 -"),
+    # Keys are text in every dictionary; a message's key is any string.
+    (b"00000007d1:\xff0:e", "10 1 0 - 0 0 -"),
+    (b"00000013d7:versioni3e1:\x000:e", "10 13 0 - 0 0 -"),
+    (b"00000023d7:versiond3:mini1e3:maxi2e2:\xc0\x800:ee",
+     "10 27 0 - 0 0 -"),
+    (b"00000018l4:infold2:idi5e1:\xff0:eee", "10 16 0 - 0 0 -"),
+    (b"00000018l4:infold1:\xff0:2:idi5eeee", "10 9 0 - 0 0 -"),
+    (b"0000000El4:infolded1:\xff", "10 11 0 - 0 0 -"),
+    (b"0000000Fl4:noopd1:\xff0:ee", "10 8 0 - 0 0 -"),
+    (b"0000000Fl4:portd1:\xff0:ee", "10 8 0 - 0 0 -"),
+    (b"0000000Cl1:\xffd1:\x800:ee", "10 5 0 - 0 0 -"),
+    (b"00000008l1:\xff1:\x00e", "0 0 16 m 0 0 p12,3"),
+    (b"0000000Dl6:failed1:\xffe", "0 0 21 m 6 0 t19,1"),
 ]
 
 # Each listed key with a right value and, if there is one, a wrong value.

@@ -8,15 +8,19 @@ code of the first fault and its offset from the payload's start:
   7   a 17th level opens
   8   a key comes twice in one dictionary
   9   bytes follow the value
+  10  a key is no text: not well-formed UTF-8, or with a zero byte
   11  strict profile only: a key is not above the one before it
 
 In tools/, python3 -B -m oracle.payload --self-test checks the examples of the
-rules.
+rules, and texts against the syntax of RFC 3629.
 """
 
+import itertools
+import random
 import sys
 
-MALFORMED, RANGE, DEPTH, REPEATED, TRAILING, UNSORTED = 5, 6, 7, 8, 9, 11
+MALFORMED, RANGE, DEPTH, REPEATED, TRAILING = 5, 6, 7, 8, 9
+NO_TEXT, UNSORTED = 10, 11
 MAX_LEVELS = 16
 INT_MIN, INT_MAX = -(2**63), 2**63 - 1
 DIGITS = frozenset(b"0123456789")
@@ -29,6 +33,15 @@ class Fault(Exception):
         super().__init__(code, offset)
         self.code = code
         self.offset = offset
+
+
+def is_text(key):
+    """Whether a key is well-formed UTF-8 (RFC 3629) with no zero byte."""
+    try:
+        key.decode("utf-8", "strict")
+    except UnicodeDecodeError:
+        return False
+    return 0 not in key
 
 
 class Parser:
@@ -107,6 +120,8 @@ class Parser:
         while self.peek() != ord("e"):
             start = self.pos
             key = self.string()
+            if not is_text(key):
+                raise Fault(NO_TEXT, start)
             if key in known:
                 raise Fault(REPEATED, start)
             if self.strict and keys and key <= keys[-1]:
@@ -225,6 +240,28 @@ SAME_IN_BOTH = [
     (b"d1:ai1e1:", 5, 9),
     (b"d1:ai1e1:bx", 5, 10),
     (b"d1:ad1:ai1eee", 0, 13),
+    # Keys are text: 10 once the key is all there, before anything after it.
+    (b"d1:\xff", 10, 1),
+    (b"d2:\xff", 5, 4),
+    (b"d1:\x00i0ee", 10, 1),
+    (b"d3:a\x00bi0ee", 10, 1),
+    (b"d1:\xffx", 10, 1),
+    (b"d1:\xffi9223372036854775808ee", 10, 1),
+    (b"d1:\xff0:eee", 10, 1),
+    (b"d01:\xff0:e", 5, 2),
+    (b"d1:\xff0:1:\xff0:e", 10, 1),
+    (b"d1:a0:1:a0:1:\xff0:e", 8, 6),
+    (b"d1:a0:1:\xff0:1:a0:e", 10, 6),
+    (b"li9223372036854775808ed1:\xff0:ee", 6, 1),
+    (b"l" * 15 + b"d1:\xffle" + b"e" * 16, 10, 16),
+    (b"l" * 17 + b"d1:\xff", 7, 16),
+    (b"ld1:ald1:\x800:eeee", 10, 7),
+    (b"d2:\xc3\xa40:4:\xf4\x8f\xbf\xbf0:e", 0, 16),
+    (b"d3:\xef\xbb\xbf0:3:\xef\xbf\xbf0:e", 0, 16),
+    # Strings that are no keys are free.
+    (b"1:\xff", 0, 3),
+    (b"l1:\x001:\xffe", 0, 8),
+    (b"d1:a1:\xffe", 0, 8),
     # Bytes after the value.
     (b"i1ee", 9, 3),
     (b"0:0:", 9, 2),
@@ -238,16 +275,73 @@ DIFFERENT = [
     (b"d1:bi1e1:a", (5, 10), (11, 7)),
     (b"d2:aa0:1:a0:e", (0, 13), (11, 7)),
     (b"d1:a0:0:0:e", (0, 11), (11, 6)),
-    (b"d1:\x800:1:\x7f0:e", (0, 12), (11, 6)),
+    (b"d2:\xc2\x800:1:\x7f0:e", (0, 13), (11, 7)),
     (b"d1:b0:1:a0:1:b0:e", (8, 11), (11, 6)),
     # 8 goes before 11 at the same key.
     (b"d1:a0:1:b0:1:a0:e", (8, 11), (8, 11)),
+    # 10 goes before 11 at the same key, and 11 at an earlier one before it.
+    (b"d1:b0:2:a\xff0:e", (10, 6), (10, 6)),
+    (b"d1:b0:1:a0:1:\xff0:e", (10, 11), (11, 6)),
     # Bytes decide, not their number.
     (b"d2:aa0:1:b0:e", (0, 13), (0, 13)),
 ]
 
 
+# The characters of RFC 3629, section 4: the first and the last of each byte.
+TAIL = (0x80, 0xBF)
+CHARACTERS = [
+    [(0x00, 0x7F)],
+    [(0xC2, 0xDF), TAIL],
+    [(0xE0, 0xE0), (0xA0, 0xBF), TAIL],
+    [(0xE1, 0xEC), TAIL, TAIL],
+    [(0xED, 0xED), (0x80, 0x9F), TAIL],
+    [(0xEE, 0xEF), TAIL, TAIL],
+    [(0xF0, 0xF0), (0x90, 0xBF), TAIL, TAIL],
+    [(0xF1, 0xF3), TAIL, TAIL, TAIL],
+    [(0xF4, 0xF4), (0x80, 0x8F), TAIL, TAIL],
+]
+
+
+def is_character(data):
+    return any(len(data) == len(ranges) and all(
+        low <= byte <= high for byte, (low, high) in zip(data, ranges))
+        for ranges in CHARACTERS)
+
+
+def has_syntax(key):
+    """Whether a key is characters by the table, none of them zero."""
+    at = 0
+    while at < len(key):
+        size = next((size for size in range(1, 5)
+                     if is_character(key[at:at + size])), None)
+        if size is None or key[at] == 0:
+            return False
+        at += size
+    return True
+
+
+# Bytes about the ends of the table's ranges.
+ENDS = sorted({byte for ranges in CHARACTERS for low, high in ranges
+               for byte in (low - 1, low, high, high + 1)
+               if 0 <= byte <= 255} | {1, 0x61, 0xC1, 0xFE, 0xFF})
+
+
+def texts():
+    """Short texts of all shapes, and random ones."""
+    for size in range(4):
+        yield from itertools.product(ENDS, repeat=size)
+    tails = (0x7F, 0x80, 0xBF, 0xC0)
+    yield from itertools.product(range(0xEF, 0xF6), ENDS, tails, tails)
+    chance = random.Random(3629)
+    for _ in range(20000):
+        yield [chance.choice(ENDS) for _ in range(chance.randrange(9))]
+        above = chance.choice((0x80, 0x800, 0x10000, 0x110000))
+        yield chr(chance.randrange(above)).encode("utf-8", "surrogatepass")
+
+
 def self_test():
+    for text in map(bytes, texts()):
+        assert is_text(text) == has_syntax(text), text
     for payload, code, offset in SAME_IN_BOTH:
         for strict in (False, True):
             answer = walk(payload, strict)

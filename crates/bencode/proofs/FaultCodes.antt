@@ -18,6 +18,7 @@ use Rattle.bencode.specs.Fault.{fault}
 use Rattle.bencode.specs.Strings.{stringAt, textEnd}
 use Rattle.bencode.specs.Integers.{signed, integerFrom, integerAt, numberEnd}
 use Rattle.bencode.specs.Loop.{LoopStep, next, done, afterStep, repeat}
+use Rattle.bencode.specs.Utf8.{isText}
 use Rattle.bencode.specs.Key.{isUsed, isAbove, orderFault, isFaultCode, keyFault}
 use Rattle.bencode.specs.Scalar.{scalarAt}
 use Rattle.bencode.specs.Walk.{onward, listStep, listFrom, entryStep, dictionaryStep, dictionaryFrom, valueAt, whole, payloadAt}
@@ -78,13 +79,14 @@ module _ (p : Profile) where
   -- ---- keys
   key-coded : (keys : List (List ℕ)) (key : List ℕ) → eqb (keyFault p keys key) 0 ≡ false → isFaultCode p (keyFault p keys key) ≡ true
   unfolding keyFault
-  key-coded keys key e = go (isUsed key keys) (isAbove key keys) p e
+  key-coded keys key e = go (isText key) (isUsed key keys) (isAbove key keys) p e
     where
-      go : (t u : Bool) (q : Profile) → eqb (cond t 8 (orderFault q u)) 0 ≡ false → isFaultCode q (cond t 8 (orderFault q u)) ≡ true
-      go true u q e = refl
-      go false u Profile.Loose e = clash true refl e
-      go false true Profile.Strict e = clash true refl e
-      go false false Profile.Strict e = refl
+      go : (w t u : Bool) (q : Profile) → eqb (cond w (cond t 8 (orderFault q u)) 10) 0 ≡ false → isFaultCode q (cond w (cond t 8 (orderFault q u)) 10) ≡ true
+      go true true u q e = refl
+      go true false u Profile.Loose e = clash true refl e
+      go true false true Profile.Strict e = clash true refl e
+      go true false false Profile.Strict e = refl
+      go false t u q e = refl
 
   -- ---- loops
   Stops : {X : Type 0} → LoopStep X Walk → Type 0

@@ -8,8 +8,11 @@ use mathlib.Core.Logic.{⊎-elim}
 use mathlib.Core.List.{List, [], _∷_, List·Memᴰ, List·Memᴰ·head, List·Memᴰ·tail, List·Memᴰ·not-nil, List·Memᴰ·cases-cons}
 use native.Mathlib.Omega.{arith}
 use Rattle.octets.specs.Bytes.{same, less}
-use Rattle.bencode.specs.Key.{isUsed, isAbove, keyFault}
-use Rattle.bencode.specs.Demands.{KeysOnce, KeysRise}
+use Rattle.bencode.specs.declared.profile.Profile.{Profile}
+use Rattle.bencode.specs.Utf8.{Utf8Text, isText}
+use Rattle.bencode.specs.Key.{isUsed, isAbove, orderFault, placeFault, keyFault}
+use Rattle.bencode.specs.Demands.{KeysOnce, KeysRise, TenForNoText}
+use Rattle.bencode.proofs.KeyText.{key-text}
 use Rattle.octets.proofs.sequences.Order.{clash, same-eq}
 use Rattle.bencode.proofs.walking.KeyOrder.{above-unused, used-head, used-tail}
 
@@ -42,11 +45,12 @@ every-above key (j ∷ keys) h = rw (h j (List·Memᴰ·head refl)) (every-above
 
 pub keys-once : KeysOnce
 unfolding keyFault
-keys-once keys key = (λ e m. go (isUsed key keys) (member-used key keys m) e, λ h. back (isUsed key keys) refl h)
+keys-once keys key = (λ e. there (isText key) refl (isUsed key keys) refl e, λ h. rw (key-text key .1 (h .0)) (back (isUsed key keys) refl (h .1)))
   where
-    go : (t : Bool) → t ≡ true → _≡_ {A = ℕ} (cond t 8 0) 0 → ⊥
-    go true q e = omega arith
-    go false q e = clash false q refl
+    there : (w : Bool) → isText key ≡ w → (t : Bool) → isUsed key keys ≡ t → _≡_ {A = ℕ} (cond w (cond t 8 0) 10) 0 → Utf8Text key × (List·Memᴰ key keys → ⊥)
+    there true x true q e = absurd (omega arith)
+    there true x false q e = (key-text key .0 x, λ m. clash (isUsed key keys) (member-used key keys m) q)
+    there false x t q e = absurd (omega arith)
 
     back : (t : Bool) → isUsed key keys ≡ t → (List·Memᴰ key keys → ⊥) → _≡_ {A = ℕ} (cond t 8 0) 0
     back true q h = absurd (h (used-member key keys q))
@@ -54,9 +58,25 @@ keys-once keys key = (λ e m. go (isUsed key keys) (member-used key keys m) e, �
 
 pub keys-rise : KeysRise
 unfolding keyFault
-keys-rise keys key = (λ e. above-every key keys (go (isUsed key keys) (isAbove key keys) e), λ h. rw (above-unused key keys (every-above key keys h), every-above key keys h) refl)
+keys-rise keys key = (λ e. there (isText key) refl (isUsed key keys) (isAbove key keys) refl e, λ h. rw (key-text key .1 (h .0), above-unused key keys (every-above key keys (h .1)), every-above key keys (h .1)) refl)
   where
-    go : (t u : Bool) → _≡_ {A = ℕ} (cond t 8 (cond u 0 11)) 0 → u ≡ true
-    go true u e = absurd (omega arith)
-    go false true e = refl
-    go false false e = absurd (omega arith)
+    there : (w : Bool) → isText key ≡ w → (t u : Bool) → isAbove key keys ≡ u → _≡_ {A = ℕ} (cond w (cond t 8 (cond u 0 11)) 10) 0 → Utf8Text key × ((k : List ℕ) → List·Memᴰ k keys → less k key ≡ true)
+    there true x true u q e = absurd (omega arith)
+    there true x false true q e = (key-text key .0 x, above-every key keys q)
+    there true x false false q e = absurd (omega arith)
+    there false x t u q e = absurd (omega arith)
+
+pub ten-for-no-text : TenForNoText
+unfolding keyFault
+ten-for-no-text p keys key = (λ e t. there (isText key) (key-text key .1 t) (isUsed key keys) (isAbove key keys) p e, λ h. back (isText key) refl h)
+  where
+    there : (w : Bool) → w ≡ true → (t u : Bool) (q : Profile) → _≡_ {A = ℕ} (cond w (cond t 8 (orderFault q u)) 10) 10 → ⊥
+    there true x true u q e = omega arith
+    there true x false u Profile.Loose e = omega arith
+    there true x false true Profile.Strict e = omega arith
+    there true x false false Profile.Strict e = omega arith
+    there false x t u q e = clash false x refl
+
+    back : (w : Bool) → isText key ≡ w → (Utf8Text key → ⊥) → cond w (placeFault p keys key) 10 ≡ 10
+    back true x h = absurd (h (key-text key .0 x))
+    back false x h = refl

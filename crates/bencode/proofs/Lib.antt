@@ -1,5 +1,6 @@
 pub mod loops
 pub mod scalars
+pub mod utf8
 pub mod walking
 pub mod lookup
 pub mod values
@@ -11,4 +12,6 @@ pub mod Fields
 pub mod Grammar
 pub mod FaultCodes
 pub mod Judgement
+pub mod KeyText
+pub mod Tried
 pub mod KeyRule

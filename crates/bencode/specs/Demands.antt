@@ -19,6 +19,7 @@ use Rattle.bencode.specs.Letters.{letterE}
 use Rattle.bencode.specs.Depth.{largestDepth}
 use Rattle.bencode.specs.Strings.{stringAt}
 use Rattle.bencode.specs.Integers.{integerAt}
+use Rattle.bencode.specs.Utf8.{Utf8Text, isText}
 use Rattle.bencode.specs.Key.{keyFault, isFaultCode}
 use Rattle.bencode.specs.Walk.{payloadAt}
 use Rattle.bencode.specs.Skip.{skipValue, skipRest}
@@ -35,13 +36,21 @@ AcceptsExactly = (p : Profile) (s : List ℕ) → (payloadAt p s ≡ Walk.End (l
 abbrev pub OneValue : Type 0
 OneValue = (v w : Value) → encode v ≡ encode w → v ≡ w
 
--- the loose profile allows a key exactly where it comes once
-abbrev pub KeysOnce : Type 0
-KeysOnce = (keys : List (List ℕ)) (key : List ℕ) → (keyFault Profile.Loose keys key ≡ 0) ↔ (List·Memᴰ key keys → ⊥)
+-- request 03: bytes are recognised as a text exactly where they are the joined UTF-8 encodings of characters
+abbrev pub KeyText : Type 0
+KeyText = (key : List ℕ) → (isText key ≡ true) ↔ Utf8Text key
 
--- the strict profile allows a key exactly where every earlier one is below it
+-- the loose profile allows a key exactly where it is text and comes once
+abbrev pub KeysOnce : Type 0
+KeysOnce = (keys : List (List ℕ)) (key : List ℕ) → (keyFault Profile.Loose keys key ≡ 0) ↔ (Utf8Text key × (List·Memᴰ key keys → ⊥))
+
+-- the strict profile allows a key exactly where it is text and every earlier one is below it
 abbrev pub KeysRise : Type 0
-KeysRise = (keys : List (List ℕ)) (key : List ℕ) → (keyFault Profile.Strict keys key ≡ 0) ↔ ((k : List ℕ) → List·Memᴰ k keys → less k key ≡ true)
+KeysRise = (keys : List (List ℕ)) (key : List ℕ) → (keyFault Profile.Strict keys key ≡ 0) ↔ (Utf8Text key × ((k : List ℕ) → List·Memᴰ k keys → less k key ≡ true))
+
+-- request 03: 10 is given to a key exactly where it is no text, whatever the profile and the earlier keys
+abbrev pub TenForNoText : Type 0
+TenForNoText = (p : Profile) (keys : List (List ℕ)) (key : List ℕ) → (keyFault p keys key ≡ 10) ↔ (Utf8Text key → ⊥)
 
 -- a payload's fault has a code of its profile, which is never 0
 abbrev pub FaultsCoded : Type 0

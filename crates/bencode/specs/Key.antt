@@ -1,5 +1,6 @@
 -- Which keys are allowed is pinned by `KeysOnce` and `KeysRise`; the codes and `isFaultCode` are to be believed. The key rule:
--- which keys may follow which in a dictionary (document 01, 'The frame': in any order, and no key twice).
+-- which keys may follow which in a dictionary (document 01, 'The frame': in any order, and no key twice; document 02, request
+-- 03: keys are text).
 -- Assumes nothing.
 use Prim.Native.Nat.{ℕ}
 use mathlib.Core.Bool.{Bool, true, false, cond, _&&_, _||_}
@@ -7,6 +8,7 @@ use mathlib.Core.List.{List, [], _∷_}
 use lib.Dec.{eqb, leb}
 use Rattle.bencode.specs.declared.profile.Profile.{Profile}
 use Rattle.octets.specs.Bytes.{same, less}
+use Rattle.bencode.specs.Utf8.{isText}
 
 -- is a key among the earlier ones
 unfoldable pub isUsed : List ℕ → List (List ℕ) → Bool
@@ -23,14 +25,18 @@ abbrev pub orderFault : Profile → Bool → ℕ
 orderFault Profile.Loose rises = 0
 orderFault Profile.Strict rises = cond rises 0 11
 
--- the fault of a key after the earlier keys of its dictionary, the latest of them first: 8 where it comes again, 0 for none
-unfoldable pub keyFault : Profile → List (List ℕ) → List ℕ → ℕ
-keyFault p keys key = cond (isUsed key keys) 8 (orderFault p (isAbove key keys))
+-- the fault of a key that is text: 8 where it comes again
+abbrev pub placeFault : Profile → List (List ℕ) → List ℕ → ℕ
+placeFault p keys key = cond (isUsed key keys) 8 (orderFault p (isAbove key keys))
 
--- the codes of a profile's faults: 5 to 9, and 11 in the strict one
+-- the fault of a key after the earlier keys of its dictionary, the latest of them first: 10 where it is no text, 0 for none
+unfoldable pub keyFault : Profile → List (List ℕ) → List ℕ → ℕ
+keyFault p keys key = cond (isText key) (placeFault p keys key) 10
+
+-- the codes of a profile's faults: 5 to 10, and 11 in the strict one
 abbrev pub isOrderCode : Profile → ℕ → Bool
 isOrderCode Profile.Loose c = false
 isOrderCode Profile.Strict c = eqb c 11
 
 abbrev pub isFaultCode : Profile → ℕ → Bool
-isFaultCode p c = (leb 5 c && leb c 9) || isOrderCode p c
+isFaultCode p c = (leb 5 c && leb c 10) || isOrderCode p c

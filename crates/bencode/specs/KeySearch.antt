@@ -1,5 +1,5 @@
 -- Pinned by the promise of the walk's `dictionary`, which is over the list of earlier keys; nothing public cites it. How the key
--- rule is checked from the payload, with no such list.
+-- rule is checked from the payload, with no such list: whether a key is text where it is read, its order afterwards.
 -- Assumes nothing.
 use Prim.Native.Nat.{ℕ}
 use mathlib.Core.Bool.{Bool, true, false, cond}
@@ -9,9 +9,22 @@ use Rattle.bencode.specs.declared.entry.Entry.{Entry}
 use Rattle.bencode.specs.declared.key.Seen.{Seen}
 use Rattle.bencode.specs.declared.key.KeyCheck.{KeyCheck}
 use Rattle.bencode.specs.declared.profile.Profile.{Profile}
+use Rattle.bencode.specs.declared.strings.Text.{Text}
 use Rattle.octets.specs.Bytes.{slice, less}
+use Rattle.bencode.specs.Fault.{fault}
+use Rattle.bencode.specs.Strings.{stringAt}
+use Rattle.bencode.specs.Utf8.{isText}
 use Rattle.bencode.specs.Entry.{entryAt}
 use Rattle.bencode.specs.Marks.{placeOf, isMarked, withMark}
+
+-- a string at an offset as a key: 10 there where it is no text
+abbrev pub asKey : List ℕ → ℕ → Text → Text
+asKey s at (Text.Bytes start end) = cond (isText (slice s start end)) (Text.Bytes start end) (Text.Fault (fault 10 at))
+asKey s at (Text.Fault f) = Text.Fault f
+
+-- the key at an offset: where its text starts and ends, or the fault
+unfoldable pub keyTextAt : List ℕ → ℕ → Text
+keyTextAt s at = asKey s at (stringAt s at)
 
 -- what is kept before the first entry, which is at an offset
 abbrev pub noneSeen : ℕ → Seen
@@ -47,7 +60,7 @@ abbrev pub unsorted : Profile → Seen → KeyCheck
 unsorted Profile.Loose seen = KeyCheck.Allowed seen
 unsorted Profile.Strict seen = KeyCheck.Refused 11
 
--- the check of a key from start up to end, whose entry is at an offset, as it is made from the payload
+-- the check of a key that is text, from start up to end, whose entry is at an offset, as it is made from the payload
 unfoldable pub keyAt : Profile → List ℕ → Seen → ℕ → ℕ → ℕ → KeyCheck
 keyAt p s seen at start end =
     cond (aboveAt s seen at (slice s start end)) (KeyCheck.Allowed (risen s seen start end))

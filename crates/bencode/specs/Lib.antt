@@ -5,6 +5,7 @@ pub mod Strings
 pub mod Integers
 pub mod Scalar
 pub mod Depth
+pub mod Utf8
 pub mod Key
 pub mod Walk
 pub mod Skip
@@ -19,3 +20,4 @@ pub mod Value
 pub mod Field
 pub mod Judge
 pub mod Demands
+pub mod Tries

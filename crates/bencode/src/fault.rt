@@ -17,6 +17,8 @@ impl Fault {
     pub const REPEATED_KEY: u8 = 8;
     // Bytes follow the value.
     pub const TRAILING: u8 = 9;
+    // A key is no text: not well-formed UTF-8, or with a zero byte.
+    pub const NO_TEXT: u8 = 10;
     // A key is not above the earlier ones, in the strict profile.
     pub const UNSORTED_KEY: u8 = 11;
 }

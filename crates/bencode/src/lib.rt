@@ -11,6 +11,7 @@ mod key;
 mod lists;
 mod marks;
 mod plain_integers;
+mod plain_text;
 mod positive_integers;
 mod profile;
 mod put;
@@ -20,6 +21,8 @@ mod scalar;
 mod short_strings;
 mod skip;
 mod strings;
+mod text;
+mod text_keys;
 mod walk;
 
 pub use fault::Fault;

@@ -4,7 +4,6 @@ ghost use Rattle.bencode.specs.Fault.{afterOf};
 ghost use Rattle.bencode.specs.Strings.{stringAt, textEnd};
 use super::fault::Fault;
 use super::fault::Walk;
-use super::short_strings::short_string;
 use octets::byte_at;
 use octets::numeral;
 
@@ -45,19 +44,6 @@ pub fn string(s: &[u8], at: usize) -> Text
         start,
         end: start + (number as usize),
     }
-}
-
-// The string at an offset: the same as `string`, for a walk's keys. It is called at one place only, so that it is inlined there.
-pub fn key_string(s: &[u8], at: usize) -> Text
-    ensures { λ r. ⌜ r ≡ stringAt (now (s .entry)) at ⌝ }
-{
-    let p = short_string(s, at);
-    let start = p.start;
-    let end = p.end;
-    if end != 0 {
-        return Text::Bytes { start, end };
-    }
-    string(s, at)
 }
 
 // The offset after the string at an offset.

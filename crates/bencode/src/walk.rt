@@ -27,8 +27,8 @@ use super::runs::quick_items;
 use super::scalar::quick_scalar;
 use super::scalar::scalar_end;
 use super::strings::Text;
-use super::strings::key_string;
-use super::strings::string_end;
+use super::text_keys::key_end;
+use super::text_keys::key_string;
 
 // The offset after the value at an offset, which stands at a depth.
 pub fn value(s: &[u8], at: usize, depth: Depth, profile: Profile, classes: &[u8; 256]) -> Walk
@@ -104,7 +104,7 @@ pub fn dictionary(
             return noted_end(at + 1, found);
         }
         let Text::Bytes { start, end } = key_string(s, at) else {
-            return noted_key(string_end(s, at));
+            return noted_key(key_end(s, at));
         };
         match check_key(s, seen, at, start, end, profile) {
             KeyCheck::Refused(code) => {

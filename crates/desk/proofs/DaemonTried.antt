@@ -5,6 +5,7 @@ use Rattle.octets.specs.Numerals.{digits, numeralAt}
 use Rattle.bencode.specs.Strings.{stringAt}
 use Rattle.bencode.specs.Integers.{integerAt, integerFrom}
 use Rattle.octets.specs.Bytes.{same, less}
+use Rattle.bencode.specs.Utf8.{textFrom}
 use Rattle.bencode.specs.Key.{isUsed, isAbove, keyFault}
 use Rattle.bencode.specs.Scalar.{scalarAt}
 use Rattle.bencode.specs.Loop.{repeat}
@@ -27,5 +28,5 @@ use Rattle.desk.specs.Machine.{isAmong, obey, idsFrom, idsIn, limitComma
 use Rattle.desk.specs.Tries.{runningOf, shown, before, tries, DaemonTried}
 
 pub daemon-tried : DaemonTried
-unfolding tries before shown runningOf handed takes obeying commandIn contentCommand idsCommand limitCommand idsIn idsFrom obey isAmong frameReading skipFrom itemAt readFrame lengthReading payloadReading ascii hexValue headerIn readHeader sized hexDigit tagOf torrentIdOf keys numberFrom keyNumber classOf entryAt fieldAt fieldOf idEnd torrentEnd itemEnd itemsEnd listPart formatted tailAt messageReading rangeOf rangeAt dictionaryVersions handshakeReading payloadAt valueAt scalarAt integerAt integerFrom numeralAt digits stringAt listFrom dictionaryFrom repeat keyFault isUsed isAbove same less
+unfolding tries before shown runningOf handed takes obeying commandIn contentCommand idsCommand limitCommand idsIn idsFrom obey isAmong frameReading skipFrom itemAt readFrame lengthReading payloadReading ascii hexValue headerIn readHeader sized hexDigit tagOf torrentIdOf keys numberFrom keyNumber classOf entryAt fieldAt fieldOf idEnd torrentEnd itemEnd itemsEnd listPart formatted tailAt messageReading rangeOf rangeAt dictionaryVersions handshakeReading payloadAt valueAt scalarAt integerAt integerFrom numeralAt digits stringAt listFrom dictionaryFrom repeat keyFault textFrom isUsed isAbove same less
 daemon-tried = refl

@@ -102,11 +102,11 @@ digits-of (suc k) (c ∷ cs) = go (decLt (hexValue c) 16) (digits-of k cs)
     go (no h) d = other [] cs c refl none (omega arith) (omega arith)
 
 -- a fault's code in the loose profile
-loose-code : (c : ℕ) → isFaultCode Profile.Loose c ≡ true → (5 ≤ c) × (c ≤ 9)
-loose-code c e = go (leb 5 c) refl (leb c 9) refl e
+loose-code : (c : ℕ) → isFaultCode Profile.Loose c ≡ true → (5 ≤ c) × (c ≤ 10)
+loose-code c e = go (leb 5 c) refl (leb c 10) refl e
   where
-    go : (t : Bool) → leb 5 c ≡ t → (u : Bool) → leb c 9 ≡ u → (t && u) || false ≡ true → (5 ≤ c) × (c ≤ 9)
-    go true p true q e = (leb-true 5 c p, leb-true c 9 q)
+    go : (t : Bool) → leb 5 c ≡ t → (u : Bool) → leb c 10 ≡ u → (t && u) || false ≡ true → (5 ≤ c) × (c ≤ 10)
+    go true p true q e = (leb-true 5 c p, leb-true c 10 q)
     go true p false q e = clash false e refl
     go false p u q e = clash false e refl
 

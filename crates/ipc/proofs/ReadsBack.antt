@@ -15,6 +15,7 @@ use Rattle.octets.specs.Bytes.{same, slice}
 use Rattle.bencode.specs.Letters.{letterE}
 use Rattle.bencode.specs.Depth.{largestDepth}
 use Rattle.bencode.specs.Integers.{InRange}
+use Rattle.bencode.specs.Utf8.{textFrom}
 use Rattle.bencode.specs.Key.{isUsed, keyFault}
 use Rattle.bencode.specs.Value.{Value, integer, string, list, Values, no-value, value, encodeString, encode, WellFormed}
 use Rattle.octets.proofs.sequences.BeginsLaws.{slice-begins}
@@ -313,7 +314,7 @@ ranged low high room n e = go (rangeOf (pos low) (pos high)) refl e
     go OptionalVersions.None q e = let z : _≡_ {A = ℕ} 0 1 = cc in absurd (omega arith)
 
 handshake-formed : (low high : ℕ) → IsRange low high → WellFormed Profile.Loose largestDepth (handshakeValue low high)
-unfolding keyFault isUsed same ascii
+unfolding keyFault textFrom isUsed same ascii
 handshake-formed low high r =
     let low-fits : low < 2 ^ 63 = omega (arith, r .ordered, r .small) in
     let high-fits : high < 2 ^ 63 = omega (arith, r .small) in

@@ -7,6 +7,7 @@ use Rattle.bencode.specs.Value.{encode}
 use Rattle.bencode.specs.Strings.{stringAt}
 use Rattle.bencode.specs.Integers.{integerAt, integerFrom}
 use Rattle.octets.specs.Bytes.{same, less}
+use Rattle.bencode.specs.Utf8.{textFrom}
 use Rattle.bencode.specs.Key.{isUsed, isAbove, keyFault}
 use Rattle.bencode.specs.Scalar.{scalarAt}
 use Rattle.bencode.specs.Loop.{repeat}
@@ -30,7 +31,7 @@ use Rattle.ipc.specs.Writer.{encodeGiven, encodeTag, payloadOf, frameOf}
 use Rattle.ipc.specs.Tries.{tries, FramesTried, FramesWritten}
 
 pub frames-tried : FramesTried
-unfolding tries frameReading skipFrom itemAt readFrame lengthReading payloadReading ascii hexValue headerIn readHeader sized tagOf torrentIdOf listed numberFrom keyNumber classOf entryAt fieldAt fieldOf idEnd torrentEnd itemEnd itemsEnd listPart formatted tailAt messageReading rangeOf rangeAt dictionaryVersions handshakeReading payloadAt valueAt scalarAt integerAt integerFrom numeralAt digits stringAt listFrom dictionaryFrom repeat keyFault isUsed isAbove same less
+unfolding tries frameReading skipFrom itemAt readFrame lengthReading payloadReading ascii hexValue headerIn readHeader sized tagOf torrentIdOf listed numberFrom keyNumber classOf entryAt fieldAt fieldOf idEnd torrentEnd itemEnd itemsEnd listPart formatted tailAt messageReading rangeOf rangeAt dictionaryVersions handshakeReading payloadAt valueAt scalarAt integerAt integerFrom numeralAt digits stringAt listFrom dictionaryFrom repeat keyFault textFrom isUsed isAbove same less
 frames-tried = refl
 
 pub frames-written : FramesWritten

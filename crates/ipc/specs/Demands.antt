@@ -89,7 +89,7 @@ pub data AnswerRow (s : List ℕ) : Answer → Type 0 where
   over-protocol : (n : ℕ) (after : List ℕ) → Headed s n after → protocolPayload < n → AnswerRow s (refused 3 0)
   -- 4: over the library's
   over-limit : (n : ℕ) (after : List ℕ) → Headed s n after → largestPayload < n → n ≤ protocolPayload → AnswerRow s (refused 4 0)
-  -- 5 to 9: a fault of the payload
+  -- 5 to 10: a fault of the payload
   payload-fault : (payload after : List ℕ) (f : Fault) → Headed s (length payload) (payload ++ after) → length payload ≤ largestPayload
       → payloadAt Profile.Loose payload ≡ Walk.Fault f → AnswerRow s (refused (f .code) (f .offset))
 

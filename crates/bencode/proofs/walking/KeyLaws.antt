@@ -16,6 +16,7 @@ use Rattle.bencode.specs.declared.fault.Walk.{Walk}
 use Rattle.bencode.specs.declared.profile.Profile.{Profile}
 use Rattle.bencode.specs.Strings.{stringAt}
 use Rattle.octets.specs.Bytes.{slice, same, less}
+use Rattle.bencode.specs.Utf8.{isText}
 use Rattle.bencode.specs.Key.{isUsed, isAbove, orderFault, keyFault}
 use Rattle.bencode.specs.Walk.{valueAt}
 use Rattle.bencode.specs.Skip.{skipValue}
@@ -28,6 +29,7 @@ use Rattle.bencode.proofs.walking.WalkLaws.{value-ends}
 use Rattle.octets.proofs.sequences.Order.{clash, same-eq, same-refl, less-irrefl}
 use Rattle.bencode.proofs.walking.MarkLaws.{mark-stays, mark-comes}
 use Rattle.bencode.proofs.walking.KeyOrder.{Under, above-all, above-unused, not-above, under-above, used-head, used-tail}
+use Rattle.bencode.proofs.utf8.TextKeyLaws.{fault-of-text}
 use Rattle.bencode.proofs.lookup.SkipLaws.{value-skips}
 use Rattle.bencode.proofs.lookup.EntryLaws.{find-here, find-more}
 
@@ -180,9 +182,11 @@ module _ (p : Profile) (levels : ℕ) (s : List ℕ) (k : Seen) (at : ℕ) (keys
             under true q = clash (isAbove key keys) (above-all greatest key keys v q) h
             under false q = refl
 
-    pub key-allowed : (seen : Seen) → keyAt p s k at start end ≡ KeyCheck.Allowed seen → (keyFault p keys key ≡ 0) × ((to : ℕ) → valueAt p levels s end ≡ Walk.End to → Kept (valueAt p levels s) s seen to (key ∷ keys))
-    unfolding keyAt keyFault
-    key-allowed seen e = go (isAbove key keys) refl (isUsed key keys) refl p (rw (above-agrees key, repeated-agrees) at e)
+    pub key-allowed : isText key ≡ true → (seen : Seen) → keyAt p s k at start end ≡ KeyCheck.Allowed seen → (keyFault p keys key ≡ 0) × ((to : ℕ) → valueAt p levels s end ≡ Walk.End to → Kept (valueAt p levels s) s seen to (key ∷ keys))
+    unfolding keyAt
+    key-allowed is seen e =
+        let r = go (isAbove key keys) refl (isUsed key keys) refl p (rw (above-agrees key, repeated-agrees) at e) in
+        (fault-of-text p keys key is ∙ r .0, r .1)
       where
         go : (t : Bool) → isAbove key keys ≡ t → (u : Bool) → isUsed key keys ≡ u → (q : Profile) → cond t (KeyCheck.Allowed (risen s k start end)) (cond u (KeyCheck.Refused 8) (unsorted q (marked k key))) ≡ KeyCheck.Allowed seen
             → (cond u 8 (orderFault q t) ≡ 0) × ((to : ℕ) → valueAt p levels s end ≡ Walk.End to → Kept (valueAt p levels s) s seen to (key ∷ keys))
@@ -193,9 +197,11 @@ module _ (p : Profile) (levels : ℕ) (s : List ℕ) (k : Seen) (at : ℕ) (keys
         go false h false c Profile.Strict e = let z : _≡_ {A = ℕ} 0 1 = cc in absurd (omega arith)
         go false h false c Profile.Loose e = let n : marked k key ≡ seen = cc in (refl, λ to v. subst (λ (x : Seen). Kept (valueAt p levels s) s x to (key ∷ keys)) n (kept-below h to v))
 
-    pub key-refused : (code : ℕ) → keyAt p s k at start end ≡ KeyCheck.Refused code → (keyFault p keys key ≡ code) × (code ≡ 0 → ⊥)
-    unfolding keyAt keyFault
-    key-refused code e = go (isAbove key keys) (isUsed key keys) p (rw (above-agrees key, repeated-agrees) at e)
+    pub key-refused : isText key ≡ true → (code : ℕ) → keyAt p s k at start end ≡ KeyCheck.Refused code → (keyFault p keys key ≡ code) × (code ≡ 0 → ⊥)
+    unfolding keyAt
+    key-refused is code e =
+        let r = go (isAbove key keys) (isUsed key keys) p (rw (above-agrees key, repeated-agrees) at e) in
+        (fault-of-text p keys key is ∙ r .0, r .1)
       where
         go : (t u : Bool) (q : Profile) → cond t (KeyCheck.Allowed (risen s k start end)) (cond u (KeyCheck.Refused 8) (unsorted q (marked k key))) ≡ KeyCheck.Refused code → (cond u 8 (orderFault q t) ≡ code) × (code ≡ 0 → ⊥)
         go true u q e = let z : _≡_ {A = ℕ} 0 1 = cc in absurd (omega arith)

@@ -1,7 +1,7 @@
 -- Laws of values, lists and dictionaries: one for each way through their walkers, and where they end.
 -- Assumes nothing.
 use Prim.Native.Nat.{ℕ, zero, suc, _+_, _-_, _<_}
-use mathlib.Core.Path.{_≡_, refl, sym, _∙_}
+use mathlib.Core.Path.{_≡_, refl, sym, ap, _∙_}
 use mathlib.Core.Bool.{Bool, true, false, cond}
 use mathlib.Core.List.{List, [], _∷_}
 use native.Mathlib.Omega.{arith}
@@ -16,12 +16,15 @@ use Rattle.octets.specs.Bytes.{byteAt, slice}
 use Rattle.bencode.specs.Fault.{fault}
 use Rattle.bencode.specs.Strings.{stringAt}
 use Rattle.bencode.specs.Loop.{next, done, afterStep, Past, Onward}
+use Rattle.bencode.specs.Utf8.{isText}
 use Rattle.bencode.specs.Key.{keyFault}
+use Rattle.bencode.specs.KeySearch.{asKey, keyTextAt}
 use Rattle.bencode.specs.Scalar.{scalarAt}
 use Rattle.bencode.specs.Walk.{onward, listStep, listFrom, entryStep, dictionaryStep, dictionaryFrom, valueAt, listAt, dictionaryAt}
 use Rattle.octets.proofs.digits.NumeralLaws.{inside}
 use Rattle.bencode.proofs.loops.LoopLaws.{repeat-step, repeat-end}
 use Rattle.bencode.proofs.walking.Ends.{string-whole-inv, scalar-ends}
+use Rattle.bencode.proofs.utf8.TextKeyLaws.{fault-of-no-text}
 
 -- a walker of values ends after where it starts
 abbrev pub Ends : List ℕ → (ℕ → Walk) → Type 0
@@ -107,9 +110,6 @@ module _ (s : List ℕ) (value : ℕ → Walk) (ends : Ends s value) where
     any-dictionary-end at keys b = rw (dictionary-step at keys, eq-eqb (byteAt s at) 101 b) refl
 
     module _ (at : ℕ) (keys : List (List ℕ)) (b : byteAt s at ≡ 101 → ⊥) where
-      pub any-dictionary-no-key : (f : Fault) → stringAt s at ≡ Text.Fault f → Walk.Fault f ≡ dictionaryFrom p value s at keys
-      any-dictionary-no-key f e = rw (dictionary-step at keys, ne-eqb (byteAt s at) 101 b, e) refl
-
       module _ (start end : ℕ) (key : stringAt s at ≡ Text.Bytes start end) where
         pub any-dictionary-refused : (code : ℕ) → code ≡ keyFault p keys (slice s start end) → (code ≡ 0 → ⊥) → Walk.Fault (fault code at) ≡ dictionaryFrom p value s at keys
         any-dictionary-refused code k h = rw (dictionary-step at keys, ne-eqb (byteAt s at) 101 b, key, ← k, ne-eqb code 0 h) refl
@@ -119,6 +119,22 @@ module _ (s : List ℕ) (value : ℕ → Walk) (ends : Ends s value) where
 
         pub any-dictionary-more : (to : ℕ) → keyFault p keys (slice s start end) ≡ 0 → value end ≡ Walk.End to → dictionaryFrom p value s to (slice s start end ∷ keys) ≡ dictionaryFrom p value s at keys
         any-dictionary-more to k e = rw (dictionary-step at keys, ne-eqb (byteAt s at) 101 b, key, k, e) refl
+
+      pub any-dictionary-no-key : (f : Fault) → keyTextAt s at ≡ Text.Fault f → Walk.Fault f ≡ dictionaryFrom p value s at keys
+      unfolding keyTextAt
+      any-dictionary-no-key f e = go (stringAt s at) refl e
+        where
+          no-text : (start end : ℕ) → stringAt s at ≡ Text.Bytes start end → (t : Bool) → isText (slice s start end) ≡ t → cond t (Text.Bytes start end) (Text.Fault (fault 10 at)) ≡ Text.Fault f → Walk.Fault f ≡ dictionaryFrom p value s at keys
+          no-text start end q true h e = let z : _≡_ {A = ℕ} 0 1 = cc in absurd (omega arith)
+          no-text start end q false h e =
+              let i : fault 10 at ≡ f = cc in
+              ap Walk.Fault (sym i) ∙ any-dictionary-refused start end q 10 (sym (fault-of-no-text p keys (slice s start end) h)) (λ z. omega arith)
+
+          go : (w : Text) → stringAt s at ≡ w → asKey s at w ≡ Text.Fault f → Walk.Fault f ≡ dictionaryFrom p value s at keys
+          go (Text.Bytes start end) q e = no-text start end q (isText (slice s start end)) refl e
+          go (Text.Fault g) q e =
+              let i : g ≡ f = cc in
+              rw (dictionary-step at keys, ne-eqb (byteAt s at) 101 b, q, i) refl
 
 -- ---- values: where they end, by the levels
 pub value-ends : (p : Profile) (levels : ℕ) (s : List ℕ) → Ends s (valueAt p levels s)
@@ -179,7 +195,7 @@ module _ (p : Profile) (levels : ℕ) (s : List ℕ) (at : ℕ) where
     dictionary-end b = any-dictionary-end s (valueAt p levels s) (value-ends p levels s) p at keys b
 
     module _ (b : byteAt s at ≡ 101 → ⊥) where
-      pub dictionary-no-key : (f : Fault) → stringAt s at ≡ Text.Fault f → Walk.Fault f ≡ dictionaryFrom p (valueAt p levels s) s at keys
+      pub dictionary-no-key : (f : Fault) → keyTextAt s at ≡ Text.Fault f → Walk.Fault f ≡ dictionaryFrom p (valueAt p levels s) s at keys
       dictionary-no-key f e = any-dictionary-no-key s (valueAt p levels s) (value-ends p levels s) p at keys b f e
 
       module _ (start end : ℕ) (text : stringAt s at ≡ Text.Bytes start end) where

@@ -15,10 +15,11 @@ use Rattle.bencode.specs.declared.entry.Entry.{Entry}
 use Rattle.bencode.specs.declared.fault.Walk.{Walk}
 use Rattle.bencode.specs.declared.key.Seen.{Seen}
 use Rattle.bencode.specs.declared.strings.Text.{Text}
-use Rattle.bencode.specs.Strings.{stringAt, textEnd}
+use Rattle.bencode.specs.Strings.{textEnd}
 use Rattle.octets.specs.Bytes.{byteAt, slice}
 use Rattle.bencode.specs.Depth.{levelsLeft}
 use Rattle.bencode.specs.Entry.{entryAt}
+use Rattle.bencode.specs.KeySearch.{keyTextAt}
 use Rattle.bencode.specs.Record.{notedOf, endOf}
 use Rattle.bencode.specs.Walk.{valueAt, listAt, dictionaryAt, dictionaryFrom}
 use Rattle.octets.proofs.digits.NumeralLaws.{inside}
@@ -27,6 +28,7 @@ use Rattle.bencode.proofs.walking.Ends.{string-whole-inv}
 use Rattle.bencode.proofs.walking.WalkLaws.{value-ends, value-scalar, value-list, value-dictionary, value-deep-list, value-deep-dictionary, scalar-value, list-end, list-fault, list-more, dictionary-end, dictionary-no-key, dictionary-refused, dictionary-fault, dictionary-more}
 use Rattle.bencode.proofs.lookup.RecordLaws.{Looked, looked-more, noted-end, noted-fault, end-noted}
 use Rattle.bencode.proofs.walking.DepthLaws.{deeper-left, too-deep-left}
+use Rattle.bencode.proofs.utf8.TextKeyLaws.{key-stands}
 use Rattle.bencode.proofs.walking.KeyLaws.{Kept, kept-none, key-allowed, key-refused}
 use borrow.Fn.Kinds.{In}
 use borrow.Fn.PlainCycle.{Measures, is, falls, and}
@@ -50,8 +52,8 @@ use Rattle.bencode.proofs.records.noted_key.Reads as noted-key-reads
 use Rattle.bencode.proofs.runs.quick_items.Reads as quick-items-reads
 use Rattle.bencode.proofs.scalar.quick_scalar.Reads as quick-scalar-reads
 use Rattle.bencode.proofs.scalar.scalar_end.Reads as scalar-end-reads
-use Rattle.bencode.proofs.strings.key_string.Reads as key-string-reads
-use Rattle.bencode.proofs.strings.string_end.Reads as string-end-reads
+use Rattle.bencode.proofs.text_keys.key_end.Reads as key-end-reads
+use Rattle.bencode.proofs.text_keys.key_string.Reads as key-string-reads
 use Rattle.bencode.proofs.walk.+dictionary+list+value.{statement}
 use Rattle.bencode.proofs.walk.+dictionary+list+value.Tie.{close}
 
@@ -86,7 +88,7 @@ value-below t = and 2 value-kinds.ps (falls 2 value-kinds.ps _<_ μ-value t) val
 
 -- what each may ask and learn of the functions that it calls
 abbrev dictionary-calls : ℕ → dictionary-lts.Claims
-dictionary-calls t = (none-reads.Asked, none-reads.Learnt, class-at-reads.Asked, class-at-reads.Learnt, noted-end-reads.Asked, noted-end-reads.Learnt, key-string-reads.Asked, key-string-reads.Learnt, string-end-reads.Asked, string-end-reads.Learnt, noted-key-reads.Asked, noted-key-reads.Learnt, check-key-reads.Asked, check-key-reads.Learnt, found-after-reads.Asked, found-after-reads.Learnt, quick-scalar-reads.Asked, quick-scalar-reads.Learnt, value-below t, value.Post)
+dictionary-calls t = (none-reads.Asked, none-reads.Learnt, class-at-reads.Asked, class-at-reads.Learnt, noted-end-reads.Asked, noted-end-reads.Learnt, key-string-reads.Asked, key-string-reads.Learnt, key-end-reads.Asked, key-end-reads.Learnt, noted-key-reads.Asked, noted-key-reads.Learnt, check-key-reads.Asked, check-key-reads.Learnt, found-after-reads.Asked, found-after-reads.Learnt, quick-scalar-reads.Asked, quick-scalar-reads.Learnt, value-below t, value.Post)
 
 abbrev list-calls : ℕ → list-lts.Claims
 list-calls t = (class-at-reads.Asked, class-at-reads.Learnt, quick-items-reads.Asked, quick-items-reads.Learnt, value-below t, value.Post)
@@ -147,8 +149,8 @@ dictionary-enum-known-start t c = search needs
 dictionary-enum-told : (t : ℕ) → dictionary-lts.Need-enum-told (dictionary-calls t) (dictionary-at t) dictionary.Post dictionary-Inv-loop dictionary-μ-loop
 dictionary-enum-told t c = search needs
 
-dictionary-string-end-requires : (t : ℕ) → dictionary-lts.Need-string-end-requires (dictionary-calls t) (dictionary-at t) dictionary.Post dictionary-Inv-loop dictionary-μ-loop
-dictionary-string-end-requires t c κs = tt
+dictionary-key-end-requires : (t : ℕ) → dictionary-lts.Need-key-end-requires (dictionary-calls t) (dictionary-at t) dictionary.Post dictionary-Inv-loop dictionary-μ-loop
+dictionary-key-end-requires t c κs = tt
 
 dictionary-noted-key-requires : (t : ℕ) → dictionary-lts.Need-noted-key-requires (dictionary-calls t) (dictionary-at t) dictionary.Post dictionary-Inv-loop dictionary-μ-loop
 dictionary-noted-key-requires t c κs = tt
@@ -161,8 +163,8 @@ dictionary-returns-2 t c =
     let l = c .before .before .before .before .before .before .before .loop in
     let more = class-is-not 101 refl (byteAt s (l .at)) (λ e. c .before .before .before .before .before .if1 .left (c .before .before .before .before .before .before .class-at .ensures ∙ e)) in
     let f = c .before .before .enum-told .given in
-    let text : stringAt s (l .at) ≡ Text.Fault (f .0 .0) = sym (c .before .before .before .before .key-string .ensures) ∙ f .1 in
-    c .noted-key .ensures ∙ ap (λ (w : Walk). notedOf w Entry.Missing) (c .before .string-end .ensures ∙ ap textEnd text) ∙ noted-fault (dictionaryAt (a .profile) levels s (a .from)) (entryAt s (a .key .now) (a .from)) (f .0 .0) (dictionary-no-key (a .profile) levels s (l .at) (l .inv .0) more (f .0 .0) text ∙ l .inv .2)
+    let no : keyTextAt s (l .at) ≡ Text.Fault (f .0 .0) = sym (c .before .before .before .before .key-string .ensures) ∙ f .1 in
+    c .noted-key .ensures ∙ ap (λ (w : Walk). notedOf w Entry.Missing) (c .before .key-end .ensures ∙ ap textEnd no) ∙ noted-fault (dictionaryAt (a .profile) levels s (a .from)) (entryAt s (a .key .now) (a .from)) (f .0 .0) (dictionary-no-key (a .profile) levels s (l .at) (l .inv .0) more (f .0 .0) no ∙ l .inv .2)
 
 dictionary-check-key-requires : (t : ℕ) → dictionary-lts.Need-check-key-requires (dictionary-calls t) (dictionary-at t) dictionary.Post dictionary-Inv-loop dictionary-μ-loop
 dictionary-check-key-requires t c κs =
@@ -171,8 +173,8 @@ dictionary-check-key-requires t c κs =
     let levels = levelsLeft (a .depth) in
     let l = c .before .before .before .before .before .before .loop in
     let k = c .before .start .given in
-    let text : stringAt s (l .at) ≡ Text.Bytes (k .0 .0) (k .0 .1 .0) = sym (c .before .before .before .key-string .ensures) ∙ k .1 in
-    let w = string-whole-inv s (l .at) (k .0 .0) (k .0 .1 .0) text in
+    let is = key-stands s (l .at) (k .0 .0) (k .0 .1 .0) (sym (c .before .before .before .key-string .ensures) ∙ k .1) in
+    let w = string-whole-inv s (l .at) (k .0 .0) (k .0 .1 .0) (is .0) in
     (w .ordered, w .within, l .inv .1 .ordered, l .inv .1 .within)
 
 dictionary-enum-known-code : (t : ℕ) → dictionary-lts.Need-enum-known-code (dictionary-calls t) (dictionary-at t) dictionary.Post dictionary-Inv-loop dictionary-μ-loop
@@ -186,10 +188,10 @@ dictionary-returns-3 t c =
     let l = c .before .before .before .before .before .before .before .before .before .before .loop in
     let more = class-is-not 101 refl (byteAt s (l .at)) (λ e. c .before .before .before .before .before .before .before .before .if1 .left (c .before .before .before .before .before .before .before .before .before .class-at .ensures ∙ e)) in
     let k = c .before .before .before .before .before .start .given in
-    let text : stringAt s (l .at) ≡ Text.Bytes (k .0 .0) (k .0 .1 .0) = sym (c .before .before .before .before .before .before .before .key-string .ensures) ∙ k .1 in
+    let is = key-stands s (l .at) (k .0 .0) (k .0 .1 .0) (sym (c .before .before .before .before .before .before .before .key-string .ensures) ∙ k .1) in
     let n = c .before .code .given in
-    let no = key-refused (a .profile) levels s (l .seen) (l .at) (l .inv .0) (l .inv .1) (k .0 .0) (k .0 .1 .0) text (n .0 .0) (sym (c .before .before .before .check-key .ensures) ∙ n .1) in
-    noted-fault (dictionaryAt (a .profile) levels s (a .from)) (entryAt s (a .key .now) (a .from)) (record { code = n .0 .0; offset = l .at }) (dictionary-refused (a .profile) levels s (l .at) (l .inv .0) more (k .0 .0) (k .0 .1 .0) text (n .0 .0) no ∙ l .inv .2)
+    let no = key-refused (a .profile) levels s (l .seen) (l .at) (l .inv .0) (l .inv .1) (k .0 .0) (k .0 .1 .0) (is .0) (is .1) (n .0 .0) (sym (c .before .before .before .check-key .ensures) ∙ n .1) in
+    noted-fault (dictionaryAt (a .profile) levels s (a .from)) (entryAt s (a .key .now) (a .from)) (record { code = n .0 .0; offset = l .at }) (dictionary-refused (a .profile) levels s (l .at) (l .inv .0) more (k .0 .0) (k .0 .1 .0) (is .0) (n .0 .0) no ∙ l .inv .2)
 
 dictionary-enum-known-next : (t : ℕ) → dictionary-lts.Need-enum-known-next (dictionary-calls t) (dictionary-at t) dictionary.Post dictionary-Inv-loop dictionary-μ-loop
 dictionary-enum-known-next t c = search needs
@@ -201,8 +203,8 @@ dictionary-found-after-requires t c κs =
     let levels = levelsLeft (a .depth) in
     let l = c .before .before .before .before .before .before .before .before .before .before .loop in
     let k = c .before .before .before .before .before .start .given in
-    let text : stringAt s (l .at) ≡ Text.Bytes (k .0 .0) (k .0 .1 .0) = sym (c .before .before .before .before .before .before .before .key-string .ensures) ∙ k .1 in
-    let w = string-whole-inv s (l .at) (k .0 .0) (k .0 .1 .0) text in
+    let is = key-stands s (l .at) (k .0 .0) (k .0 .1 .0) (sym (c .before .before .before .before .before .before .before .key-string .ensures) ∙ k .1) in
+    let w = string-whole-inv s (l .at) (k .0 .0) (k .0 .1 .0) (is .0) in
     (w .ordered, w .within)
 
 dictionary-quick-scalar-requires : (t : ℕ) → dictionary-lts.Need-quick-scalar-requires (dictionary-calls t) (dictionary-at t) dictionary.Post dictionary-Inv-loop dictionary-μ-loop
@@ -215,9 +217,9 @@ dictionary-loop-less t c =
     let levels = levelsLeft (a .depth) in
     let l = c .before .before .before .before .before .before .before .before .before .before .before .before .before .loop in
     let k = c .before .before .before .before .before .before .before .before .start .given in
-    let text : stringAt s (l .at) ≡ Text.Bytes (k .0 .0) (k .0 .1 .0) = sym (c .before .before .before .before .before .before .before .before .before .before .key-string .ensures) ∙ k .1 in
+    let is = key-stands s (l .at) (k .0 .0) (k .0 .1 .0) (sym (c .before .before .before .before .before .before .before .before .before .before .key-string .ensures) ∙ k .1) in
     let v = scalar-value (a .profile) levels s (k .0 .1 .0) (c .before .quick-scalar .result) (c .before .quick-scalar .ensures (omega (arith, c .if2 .taken))) in
-    let w = string-whole-inv s (l .at) (k .0 .0) (k .0 .1 .0) text in
+    let w = string-whole-inv s (l .at) (k .0 .0) (k .0 .1 .0) (is .0) in
     omega (arith, value-ends (a .profile) levels s (k .0 .1 .0) (c .before .quick-scalar .result) v)
 
 dictionary-loop-again : (t : ℕ) → dictionary-lts.Need-loop-again (dictionary-calls t) (dictionary-at t) dictionary.Post dictionary-Inv-loop dictionary-μ-loop
@@ -228,14 +230,14 @@ dictionary-loop-again t c =
     let l = c .before .before .before .before .before .before .before .before .before .before .before .before .before .loop in
     let more = class-is-not 101 refl (byteAt s (l .at)) (λ e. c .before .before .before .before .before .before .before .before .before .before .before .if1 .left (c .before .before .before .before .before .before .before .before .before .before .before .before .class-at .ensures ∙ e)) in
     let k = c .before .before .before .before .before .before .before .before .start .given in
-    let text : stringAt s (l .at) ≡ Text.Bytes (k .0 .0) (k .0 .1 .0) = sym (c .before .before .before .before .before .before .before .before .before .before .key-string .ensures) ∙ k .1 in
+    let is = key-stands s (l .at) (k .0 .0) (k .0 .1 .0) (sym (c .before .before .before .before .before .before .before .before .before .before .key-string .ensures) ∙ k .1) in
     let n = c .before .before .before .before .next .given in
-    let ok = key-allowed (a .profile) levels s (l .seen) (l .at) (l .inv .0) (l .inv .1) (k .0 .0) (k .0 .1 .0) text (n .0 .0) (sym (c .before .before .before .before .before .before .check-key .ensures) ∙ n .1) in
+    let ok = key-allowed (a .profile) levels s (l .seen) (l .at) (l .inv .0) (l .inv .1) (k .0 .0) (k .0 .1 .0) (is .0) (is .1) (n .0 .0) (sym (c .before .before .before .before .before .before .check-key .ensures) ∙ n .1) in
     let v = scalar-value (a .profile) levels s (k .0 .1 .0) (c .before .quick-scalar .result) (c .before .quick-scalar .ensures (omega (arith, c .if2 .taken))) in
-    let looked = looked-more (a .profile) levels s (a .key .now) (a .from) (l .at) (l .found) (l .inv .3) (k .0 .0) (k .0 .1 .0) (c .before .quick-scalar .result) text v in (
+    let looked = looked-more (a .profile) levels s (a .key .now) (a .from) (l .at) (l .found) (l .inv .3) (k .0 .0) (k .0 .1 .0) (c .before .quick-scalar .result) (is .0) v in (
       slice s (k .0 .0) (k .0 .1 .0) ∷ l .inv .0,
       ok .1 (c .before .quick-scalar .result) v,
-      dictionary-more (a .profile) levels s (l .at) (l .inv .0) more (k .0 .0) (k .0 .1 .0) text (ok .0) (c .before .quick-scalar .result) v ∙ l .inv .2,
+      dictionary-more (a .profile) levels s (l .at) (l .inv .0) more (k .0 .0) (k .0 .1 .0) (is .0) (ok .0) (c .before .quick-scalar .result) v ∙ l .inv .2,
       subst (λ (x : ℕ). Looked s (a .key .now) (a .from) (c .before .quick-scalar .result) x) (sym (c .before .before .found-after .ensures)) looked,
     )
 
@@ -252,9 +254,9 @@ dictionary-loop-less-2 t c =
     let levels = levelsLeft (a .depth) in
     let l = c .before .before .before .before .before .before .before .before .before .before .before .before .before .before .before .before .before .loop in
     let k = c .before .before .before .before .before .before .before .before .before .before .before .before .start .given in
-    let text : stringAt s (l .at) ≡ Text.Bytes (k .0 .0) (k .0 .1 .0) = sym (c .before .before .before .before .before .before .before .before .before .before .before .before .before .before .key-string .ensures) ∙ k .1 in
+    let is = key-stands s (l .at) (k .0 .0) (k .0 .1 .0) (sym (c .before .before .before .before .before .before .before .before .before .before .before .before .before .before .key-string .ensures) ∙ k .1) in
     let v = sym (c .before .before .before .value .ensures) ∙ c .before .to .given .1 in
-    let w = string-whole-inv s (l .at) (k .0 .0) (k .0 .1 .0) text in
+    let w = string-whole-inv s (l .at) (k .0 .0) (k .0 .1 .0) (is .0) in
     omega (arith, value-ends (a .profile) levels s (k .0 .1 .0) (c .before .to .given .0 .0) v)
 
 dictionary-loop-again-2 : (t : ℕ) → dictionary-lts.Need-loop-again-2 (dictionary-calls t) (dictionary-at t) dictionary.Post dictionary-Inv-loop dictionary-μ-loop
@@ -265,14 +267,14 @@ dictionary-loop-again-2 t c =
     let l = c .before .before .before .before .before .before .before .before .before .before .before .before .before .before .before .before .before .loop in
     let more = class-is-not 101 refl (byteAt s (l .at)) (λ e. c .before .before .before .before .before .before .before .before .before .before .before .before .before .before .before .if1 .left (c .before .before .before .before .before .before .before .before .before .before .before .before .before .before .before .before .class-at .ensures ∙ e)) in
     let k = c .before .before .before .before .before .before .before .before .before .before .before .before .start .given in
-    let text : stringAt s (l .at) ≡ Text.Bytes (k .0 .0) (k .0 .1 .0) = sym (c .before .before .before .before .before .before .before .before .before .before .before .before .before .before .key-string .ensures) ∙ k .1 in
+    let is = key-stands s (l .at) (k .0 .0) (k .0 .1 .0) (sym (c .before .before .before .before .before .before .before .before .before .before .before .before .before .before .key-string .ensures) ∙ k .1) in
     let n = c .before .before .before .before .before .before .before .before .next .given in
-    let ok = key-allowed (a .profile) levels s (l .seen) (l .at) (l .inv .0) (l .inv .1) (k .0 .0) (k .0 .1 .0) text (n .0 .0) (sym (c .before .before .before .before .before .before .before .before .before .before .check-key .ensures) ∙ n .1) in
+    let ok = key-allowed (a .profile) levels s (l .seen) (l .at) (l .inv .0) (l .inv .1) (k .0 .0) (k .0 .1 .0) (is .0) (is .1) (n .0 .0) (sym (c .before .before .before .before .before .before .before .before .before .before .check-key .ensures) ∙ n .1) in
     let v = sym (c .before .before .before .value .ensures) ∙ c .before .to .given .1 in
-    let looked = looked-more (a .profile) levels s (a .key .now) (a .from) (l .at) (l .found) (l .inv .3) (k .0 .0) (k .0 .1 .0) (c .before .to .given .0 .0) text v in (
+    let looked = looked-more (a .profile) levels s (a .key .now) (a .from) (l .at) (l .found) (l .inv .3) (k .0 .0) (k .0 .1 .0) (c .before .to .given .0 .0) (is .0) v in (
       slice s (k .0 .0) (k .0 .1 .0) ∷ l .inv .0,
       ok .1 (c .before .to .given .0 .0) v,
-      dictionary-more (a .profile) levels s (l .at) (l .inv .0) more (k .0 .0) (k .0 .1 .0) text (ok .0) (c .before .to .given .0 .0) v ∙ l .inv .2,
+      dictionary-more (a .profile) levels s (l .at) (l .inv .0) more (k .0 .0) (k .0 .1 .0) (is .0) (ok .0) (c .before .to .given .0 .0) v ∙ l .inv .2,
       subst (λ (x : ℕ). Looked s (a .key .now) (a .from) (c .before .to .given .0 .0) x) (sym (c .before .before .before .before .before .before .found-after .ensures)) looked,
     )
 
@@ -287,10 +289,10 @@ dictionary-returns-4 t c =
     let l = c .before .before .before .before .before .before .before .before .before .before .before .before .before .before .before .before .before .loop in
     let more = class-is-not 101 refl (byteAt s (l .at)) (λ e. c .before .before .before .before .before .before .before .before .before .before .before .before .before .before .before .if1 .left (c .before .before .before .before .before .before .before .before .before .before .before .before .before .before .before .before .class-at .ensures ∙ e)) in
     let k = c .before .before .before .before .before .before .before .before .before .before .before .before .start .given in
-    let text : stringAt s (l .at) ≡ Text.Bytes (k .0 .0) (k .0 .1 .0) = sym (c .before .before .before .before .before .before .before .before .before .before .before .before .before .before .key-string .ensures) ∙ k .1 in
+    let is = key-stands s (l .at) (k .0 .0) (k .0 .1 .0) (sym (c .before .before .before .before .before .before .before .before .before .before .before .before .before .before .key-string .ensures) ∙ k .1) in
     let n = c .before .before .before .before .before .before .before .before .next .given in
-    let ok = key-allowed (a .profile) levels s (l .seen) (l .at) (l .inv .0) (l .inv .1) (k .0 .0) (k .0 .1 .0) text (n .0 .0) (sym (c .before .before .before .before .before .before .before .before .before .before .check-key .ensures) ∙ n .1) in
-    noted-fault (dictionaryAt (a .profile) levels s (a .from)) (entryAt s (a .key .now) (a .from)) (c .before .f .given .0 .0) (dictionary-fault (a .profile) levels s (l .at) (l .inv .0) more (k .0 .0) (k .0 .1 .0) text (ok .0) (c .before .f .given .0 .0) (sym (c .before .before .before .value .ensures) ∙ c .before .f .given .1) ∙ l .inv .2)
+    let ok = key-allowed (a .profile) levels s (l .seen) (l .at) (l .inv .0) (l .inv .1) (k .0 .0) (k .0 .1 .0) (is .0) (is .1) (n .0 .0) (sym (c .before .before .before .before .before .before .before .before .before .before .check-key .ensures) ∙ n .1) in
+    noted-fault (dictionaryAt (a .profile) levels s (a .from)) (entryAt s (a .key .now) (a .from)) (c .before .f .given .0 .0) (dictionary-fault (a .profile) levels s (l .at) (l .inv .0) more (k .0 .0) (k .0 .1 .0) (is .0) (ok .0) (c .before .f .given .0 .0) (sym (c .before .before .before .value .ensures) ∙ c .before .f .given .1) ∙ l .inv .2)
 
 abbrev list-Inv-loop : list-lts.InvT-loop
 list-Inv-loop s from depth profile classes at₀ at = listAt profile (levelsLeft depth) s at ≡ listAt profile (levelsLeft depth) s from
@@ -483,7 +485,7 @@ pub +dictionary+list+value-spec : {M : Type 1} → statement M
     (dictionary-key-string-requires t)
     (dictionary-enum-known-start t)
     (dictionary-enum-told t)
-    (dictionary-string-end-requires t)
+    (dictionary-key-end-requires t)
     (dictionary-noted-key-requires t)
     (dictionary-returns-2 t)
     (dictionary-check-key-requires t)

@@ -1,0 +1,4 @@
+pub mod TextLaws
+pub mod PlainLaws
+pub mod WordLaws
+pub mod TextKeyLaws
