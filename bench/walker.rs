@@ -15,7 +15,7 @@ const RANGE: u8 = 6;
 const DEPTH: u8 = 7;
 const REPEATED_KEY: u8 = 8;
 const TRAILING: u8 = 9;
-const NO_TEXT: u8 = 10;
+const ILL_FORMED_KEY: u8 = 10;
 const UNSORTED_KEY: u8 = 11;
 
 /// Walks a payload: code 0 and its length if it is accepted, else the first fault's code and offset.
@@ -121,7 +121,7 @@ impl<'a> Walker<'a> {
             let key = Key::new(text, length);
             let value = &text[length..];
             if !key.is_text() {
-                return self.refuse(NO_TEXT, rest);
+                return self.refuse(ILL_FORMED_KEY, rest);
             }
             match keys.add(key, rest, &mut self.kept) {
                 Added::Rising => {}

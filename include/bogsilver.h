@@ -32,20 +32,20 @@ extern "C" {
 /* Codes of the reader. */
 enum {
     BOGSILVER_ACCEPTED = 0,
-    BOGSILVER_INCOMPLETE = 1,     /* the frame is not all there */
-    BOGSILVER_NO_DIGIT = 2,       /* a header byte is no hex digit */
-    BOGSILVER_OVER_PROTOCOL = 3,  /* longer than the protocol's limit */
-    BOGSILVER_OVER_LIMIT = 4,     /* longer than the largest payload */
-    BOGSILVER_SYNTAX = 5,         /* a byte cannot stand there, or the payload ends too soon */
-    BOGSILVER_RANGE = 6,          /* an integer is outside the range */
-    BOGSILVER_DEPTH = 7,          /* a 17th level opens */
-    BOGSILVER_REPEATED_KEY = 8,   /* a key comes twice in one dictionary */
-    BOGSILVER_TRAILING = 9,       /* bytes follow the value */
-    BOGSILVER_NO_TEXT = 10,       /* a dictionary's key is not well-formed UTF-8, or has a zero byte */
-    BOGSILVER_UNSORTED_KEY = 11,  /* of a strict walk alone: a key is not above the one before it */
-    BOGSILVER_NO_MESSAGE = 20,    /* neither a message nor a dictionary */
-    BOGSILVER_NO_HANDSHAKE = 21,  /* a dictionary that is no handshake */
-    BOGSILVER_OFF_FORMAT = 22     /* a listed key's value is off its format */
+    BOGSILVER_INCOMPLETE = 1,      /* the frame is not all there */
+    BOGSILVER_NO_DIGIT = 2,        /* a header byte is no hex digit */
+    BOGSILVER_OVER_PROTOCOL = 3,   /* longer than the protocol's limit */
+    BOGSILVER_OVER_LIMIT = 4,      /* longer than the largest payload */
+    BOGSILVER_SYNTAX = 5,          /* a byte cannot stand there, or the payload ends too soon */
+    BOGSILVER_RANGE = 6,           /* an integer is outside the range */
+    BOGSILVER_DEPTH = 7,           /* a 17th level opens */
+    BOGSILVER_REPEATED_KEY = 8,    /* a key comes twice in one dictionary */
+    BOGSILVER_TRAILING = 9,        /* bytes follow the value */
+    BOGSILVER_ILL_FORMED_KEY = 10, /* a dictionary's key is not well-formed UTF-8, or has a zero byte */
+    BOGSILVER_UNSORTED_KEY = 11,   /* of a strict walk alone: a key is not above the one before it */
+    BOGSILVER_NO_MESSAGE = 20,     /* neither a message nor a dictionary */
+    BOGSILVER_NO_HANDSHAKE = 21,   /* a dictionary that is no handshake */
+    BOGSILVER_OFF_FORMAT = 22      /* a listed key's value is off its format */
 };
 
 /* Codes of the writers; 0 is accepted. */

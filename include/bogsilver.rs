@@ -26,7 +26,7 @@ pub const DEPTH: u8 = 7;
 pub const REPEATED_KEY: u8 = 8;
 pub const TRAILING: u8 = 9;
 /// A key of a dictionary is not well-formed UTF-8, or has a zero byte.
-pub const NO_TEXT: u8 = 10;
+pub const ILL_FORMED_KEY: u8 = 10;
 /// Of a strict walk alone.
 pub const UNSORTED_KEY: u8 = 11;
 pub const NO_MESSAGE: u8 = 20;

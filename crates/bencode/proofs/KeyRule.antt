@@ -1,5 +1,5 @@
--- The key rule, said of the keys themselves: the loose profile allows what comes once, the strict one what is above all
--- earlier keys.
+-- The key rule, said of the keys themselves: of texts the loose profile allows what comes once, the strict one what is above all
+-- earlier keys; what is no text is 10.
 -- Assumes nothing.
 use Prim.Native.Nat.{ℕ}
 use mathlib.Core.Path.{_≡_, refl, sym, ap, subst, _∙_}

@@ -14,4 +14,5 @@ pub mod FaultCodes
 pub mod Judgement
 pub mod KeyText
 pub mod Tried
+pub mod Worthless
 pub mod KeyRule

@@ -3,7 +3,7 @@
 use Prim.Native.Nat.{ℕ, _+_, _-_}
 use mathlib.Core.Path.{_≡_}
 use mathlib.Core.Logic.{_↔_}
-use mathlib.Core.Bool.{true}
+use mathlib.Core.Bool.{Bool, true}
 use mathlib.Core.List.{List, [], _∷_, _++_, List·Memᴰ}
 use lib.ListN.{length}
 use Rattle.bencode.specs.declared.entry.Entry.{Entry}
@@ -36,9 +36,13 @@ AcceptsExactly = (p : Profile) (s : List ℕ) → (payloadAt p s ≡ Walk.End (l
 abbrev pub OneValue : Type 0
 OneValue = (v w : Value) → encode v ≡ encode w → v ≡ w
 
--- request 03: bytes are recognised as a text exactly where they are the joined UTF-8 encodings of characters
+-- request 03, of any recogniser: bytes are a text exactly where they are the joined UTF-8 encodings of characters
+abbrev pub KeyTextFor : (List ℕ → Bool) → Type 0
+KeyTextFor recognise = (key : List ℕ) → (recognise key ≡ true) ↔ Utf8Text key
+
+-- request 03, of ours
 abbrev pub KeyText : Type 0
-KeyText = (key : List ℕ) → (isText key ≡ true) ↔ Utf8Text key
+KeyText = KeyTextFor isText
 
 -- the loose profile allows a key exactly where it is text and comes once
 abbrev pub KeysOnce : Type 0

@@ -1,5 +1,5 @@
--- To be believed. Faults of a payload, and their codes and offsets (document 01, 'What the reader says', 5 to 9; 11 is the
--- strict profile's).
+-- To be believed. Faults of a payload, and their codes and offsets (document 01, 'What the reader says', 5 to 9; document 02, 10
+-- by request 03, and 11, the strict profile's).
 -- Assumes nothing.
 use Prim.Native.Nat.{ℕ}
 use Rattle.bencode.specs.declared.fault.Fault.{Fault}

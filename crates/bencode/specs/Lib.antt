@@ -21,3 +21,4 @@ pub mod Field
 pub mod Judge
 pub mod Demands
 pub mod Tries
+pub mod Worthless

@@ -1,4 +1,4 @@
-// What a walk of a payload answers, and the codes of the faults (document 01, 'What the reader says').
+// What a walk of a payload answers, and the codes of the faults (document 01, 'What the reader says'; document 02 for 10 and 11).
 
 // The first fault of a payload: its code, and the offset of the byte at fault from the payload's start.
 pub struct Fault {
@@ -18,7 +18,7 @@ impl Fault {
     // Bytes follow the value.
     pub const TRAILING: u8 = 9;
     // A key is no text: not well-formed UTF-8, or with a zero byte.
-    pub const NO_TEXT: u8 = 10;
+    pub const ILL_FORMED_KEY: u8 = 10;
     // A key is not above the earlier ones, in the strict profile.
     pub const UNSORTED_KEY: u8 = 11;
 }

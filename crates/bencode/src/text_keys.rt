@@ -17,7 +17,7 @@ fn no_text(at: usize) -> Fault
     ensures { λ r. ⌜ r ≡ fault 10 at ⌝ }
 {
     Fault {
-        code: Fault::NO_TEXT,
+        code: Fault::ILL_FORMED_KEY,
         offset: at,
     }
 }

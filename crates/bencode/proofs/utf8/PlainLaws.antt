@@ -6,7 +6,7 @@ use mathlib.Core.Logic.{_⊎_, inl, inr}
 use mathlib.Core.Bool.{true}
 use mathlib.Core.List.{List}
 use native.Mathlib.Omega.{arith}
-use lib.ListN.{length, drop, take, length-drop}
+use lib.ListN.{length, drop, length-drop}
 use lib.Seq.{getD-take, getD-drop, length-take-le}
 use Rattle.octets.specs.Bytes.{byteAt, slice}
 use Rattle.octets.proofs.digits.DigitLaws.{lt-or-le}
