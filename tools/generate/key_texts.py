@@ -73,7 +73,7 @@ MIDDLES = [
 
 
 def run(size):
-    """So many different letters."""
+    """So many letters, in their order again and again."""
     return bytes(ord("a") + n % 26 for n in range(size))
 
 

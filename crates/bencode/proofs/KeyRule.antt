@@ -10,7 +10,7 @@ use native.Mathlib.Omega.{arith}
 use Rattle.octets.specs.Bytes.{same, less}
 use Rattle.bencode.specs.declared.profile.Profile.{Profile}
 use Rattle.bencode.specs.Utf8.{Utf8Text, isText}
-use Rattle.bencode.specs.Key.{isUsed, isAbove, orderFault, placeFault, keyFault}
+use Rattle.bencode.specs.Key.{isUsed, isAbove, orderFault, comparedFault, keyFault}
 use Rattle.bencode.specs.Demands.{KeysOnce, KeysRise, TenForNoText}
 use Rattle.bencode.proofs.KeyText.{key-text}
 use Rattle.octets.proofs.sequences.Order.{clash, same-eq}
@@ -77,6 +77,6 @@ ten-for-no-text p keys key = (λ e t. there (isText key) (key-text key .1 t) (is
     there true x false false Profile.Strict e = omega arith
     there false x t u q e = clash false x refl
 
-    back : (w : Bool) → isText key ≡ w → (Utf8Text key → ⊥) → cond w (placeFault p keys key) 10 ≡ 10
+    back : (w : Bool) → isText key ≡ w → (Utf8Text key → ⊥) → cond w (comparedFault p keys key) 10 ≡ 10
     back true x h = absurd (h (key-text key .0 x))
     back false x h = refl

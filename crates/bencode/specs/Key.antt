@@ -1,6 +1,6 @@
--- Which keys are allowed is pinned by `KeysOnce` and `KeysRise`; the codes and `isFaultCode` are to be believed. The key rule:
--- which keys may follow which in a dictionary (document 01, 'The frame': in any order, and no key twice; document 02, request
--- 03: keys are text).
+-- Which keys are allowed is pinned by `KeysOnce` and `KeysRise`, 10 by `TenForNoText`; the other codes and `isFaultCode` are to be
+-- believed. The key rule: which keys may follow which in a dictionary (document 01, 'The frame': in any order, and no key twice;
+-- document 02, request 03: keys are text).
 -- Assumes nothing.
 use Prim.Native.Nat.{ℕ}
 use mathlib.Core.Bool.{Bool, true, false, cond, _&&_, _||_}
@@ -25,13 +25,13 @@ abbrev pub orderFault : Profile → Bool → ℕ
 orderFault Profile.Loose rises = 0
 orderFault Profile.Strict rises = cond rises 0 11
 
--- the fault of a key that is text: 8 where it comes again
-abbrev pub placeFault : Profile → List (List ℕ) → List ℕ → ℕ
-placeFault p keys key = cond (isUsed key keys) 8 (orderFault p (isAbove key keys))
+-- the fault of a key that is text: 8 where it comes again, else that of its order
+abbrev pub comparedFault : Profile → List (List ℕ) → List ℕ → ℕ
+comparedFault p keys key = cond (isUsed key keys) 8 (orderFault p (isAbove key keys))
 
 -- the fault of a key after the earlier keys of its dictionary, the latest of them first: 10 where it is no text, 0 for none
 unfoldable pub keyFault : Profile → List (List ℕ) → List ℕ → ℕ
-keyFault p keys key = cond (isText key) (placeFault p keys key) 10
+keyFault p keys key = cond (isText key) (comparedFault p keys key) 10
 
 -- the codes of a profile's faults: 5 to 10, and 11 in the strict one
 abbrev pub isOrderCode : Profile → ℕ → Bool

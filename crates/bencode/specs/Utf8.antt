@@ -1,5 +1,6 @@
--- `Utf8Text` is to be believed, `isText` is pinned by `KeyText`. Text: UTF-8 by RFC 3629, with no zero byte (document 02, request
--- 03). `Utf8Text` is by encoding (the RFC's section 3), `isText` recognises bytes by their ranges (section 4).
+-- `Utf8Text` is to be believed, `isText` is pinned by `KeyText`; the part on ASCII by the promises of `is_text` and `key_string`, and
+-- nothing public cites it. Text: UTF-8 by RFC 3629, with no zero byte (document 02, request 03). `Utf8Text` is by encoding (the
+-- RFC's section 3), `isText` recognises bytes by their ranges (section 4).
 -- Assumes nothing.
 use Prim.Native.Nat.{ℕ, zero, suc, _+_, _*_, _/_, _%_, _≤_, _<_}
 use mathlib.Core.Path.{_≡_}
@@ -15,25 +16,26 @@ abbrev pub Character : ℕ → Type 0
 Character c = (0 < c) × ((c < 0xD800) ⊎ (0xE000 ≤ c)) × (c ≤ 0x10FFFF)
 
 -- a number without its last six bits, and the byte 10xxxxxx that has them
-abbrev pub upper : ℕ → ℕ
-upper c = c / 64
+abbrev pub leading : ℕ → ℕ
+leading c = c / 64
 
-abbrev pub lower : ℕ → ℕ
-lower c = 0x80 + c % 64
+abbrev pub tail : ℕ → ℕ
+tail c = 0x80 + c % 64
 
 -- a character's bytes: 0xxxxxxx, 110xxxxx 10xxxxxx, 1110xxxx 10xxxxxx 10xxxxxx, or 11110xxx 10xxxxxx 10xxxxxx 10xxxxxx
 unfoldable pub utf8 : ℕ → List ℕ
 utf8 c =
     cond (ltb c 0x80) (c ∷ [])
-    (cond (ltb c 0x800) ((0xC0 + upper c) ∷ lower c ∷ [])
-    (cond (ltb c 0x10000) ((0xE0 + upper (upper c)) ∷ lower (upper c) ∷ lower c ∷ [])
-    ((0xF0 + upper (upper (upper c))) ∷ lower (upper (upper c)) ∷ lower (upper c) ∷ lower c ∷ [])))
+    (cond (ltb c 0x800) ((0xC0 + leading c) ∷ tail c ∷ [])
+    (cond (ltb c 0x10000) ((0xE0 + leading (leading c)) ∷ tail (leading c) ∷ tail c ∷ [])
+    ((0xF0 + leading (leading (leading c))) ∷ tail (leading (leading c)) ∷ tail (leading c) ∷ tail c ∷ [])))
 
 -- the bytes of characters, joined
 unfoldable pub utf8All : List ℕ → List ℕ
 utf8All [] = []
 utf8All (c ∷ cs) = utf8 c ++ utf8All cs
 
+-- each number is a character
 abbrev pub Characters : List ℕ → Type 0
 Characters [] = Unit {0}
 Characters (c ∷ cs) = Character c × Characters cs
@@ -73,14 +75,15 @@ abbrev pub isText : List ℕ → Bool
 isText s = textFrom 0 0x80 0xBF s
 
 -- ---- ASCII, eight bytes at a time
--- a byte that is a character
+-- a byte that is a character by itself: ASCII but 0
 abbrev pub Plain : ℕ → Type 0
 Plain b = (0 < b) × (b ≤ 0x7F)
 
--- so many bytes from an offset on are characters
+-- so many bytes from an offset on are
 abbrev pub PlainAt : List ℕ → ℕ → ℕ → Type 0
 PlainAt s at n = (k : ℕ) → k < n → Plain (byteAt s (at + k))
 
+-- eight bytes are
 abbrev pub PlainBytes : ℕ → ℕ → ℕ → ℕ → ℕ → ℕ → ℕ → ℕ → Type 0
 PlainBytes a b c d e f g h = Plain a × Plain b × Plain c × Plain d × Plain e × Plain f × Plain g × Plain h
 

@@ -1,5 +1,5 @@
 -- To be believed. The grammar: bencoded values, how each is written, and which are well formed (BEP 3, and document 01, 'The
--- frame').
+-- frame'; what a key may be also by document 02, request 03).
 -- Assumes nothing.
 use Prim.Native.Nat.{ℕ, zero, suc, _+_}
 use mathlib.Core.Path.{_≡_}

@@ -1,5 +1,5 @@
 -- What is accepted is pinned by `AcceptsExactly`; codes and offsets are to be believed. What walking a payload finds: the offset
--- after a value, or the first fault from left to right (document 01, 'What the reader says').
+-- after a value, or the first fault from left to right (document 01, 'What the reader says'; document 02 for 10 and 11).
 -- Assumes nothing.
 use Prim.Native.Nat.{ℕ, zero, suc, _+_}
 use mathlib.Core.Bool.{cond}

@@ -1,4 +1,4 @@
-// The key rule: which keys may follow which in a dictionary. A key above all earlier ones costs one comparison.
+// The key rule for keys that are text: which may follow which in a dictionary. A key above all earlier ones costs one comparison.
 ghost use mathlib.Core.Path.{_≡_};
 ghost use Prim.Native.Nat.{_≤_, _<_};
 ghost use lib.ListN.{length};
@@ -82,7 +82,7 @@ fn key_above(s: &[u8], seen: Seen, at: usize, start: usize, end: usize) -> bool
     less(&s[from..to], &s[start..end])
 }
 
-// Whether the key from start up to end, whose entry is at `at`, may stand after the earlier keys.
+// Whether the key from start up to end, a text whose entry is at `at`, may stand after the earlier keys.
 pub fn check_key(
     s: &[u8],
     seen: Seen,

@@ -10,7 +10,7 @@ use octets::wide;
 // The highest bit of each of eight bytes.
 const HIGH: u64 = 0x8080808080808080;
 
-// Added to eight bytes below 80, it sets the highest bit of each but the zeros.
+// Added to eight bytes below 0x80, it sets the highest bit of each but the zeros.
 const LOW: u64 = 0x7F7F7F7F7F7F7F7F;
 
 // Eight bytes as one number, the first one the lowest: where they stand one after another, they are read at once.
@@ -27,7 +27,7 @@ fn word_of(a: u8, b: u8, c: u8, d: u8, e: u8, f: u8, g: u8, h: u8) -> u64
         + wide(h) * 0x100000000000000
 }
 
-// Are eight bytes 1 to 7F.
+// Says yes only where eight bytes are 1 to 7F.
 fn are_plain(a: u8, b: u8, c: u8, d: u8, e: u8, f: u8, g: u8, h: u8) -> bool
     ensures { λ r. ⌜ (r ≡ true → PlainBytes a b c d e f g h) ⌝ }
 {
@@ -38,7 +38,7 @@ fn are_plain(a: u8, b: u8, c: u8, d: u8, e: u8, f: u8, g: u8, h: u8) -> bool
     (w + LOW) & HIGH == HIGH
 }
 
-// Are the eight bytes from an offset on 1 to 7F.
+// Says yes only where the eight bytes from an offset on are 1 to 7F.
 pub fn plain_at(s: &[u8], at: usize) -> bool
     requires { ⌜ at + 8 ≤ length (now s) ⌝ }
     ensures { λ r. ⌜ (r ≡ true → PlainAt (now (s .entry)) at 8) ⌝ }
@@ -55,8 +55,8 @@ pub fn plain_at(s: &[u8], at: usize) -> bool
     )
 }
 
-// Is the key from start up to end ASCII text, as far as this can tell: it looks at whole words from the start on, also past the
-// end, and where one has another byte, or the bytes end, it says no.
+// Says yes only where the key from start up to end is ASCII text: it looks at whole words from the start on, also past the end,
+// and where one has another byte, or the bytes end, it says no.
 pub fn is_plain(s: &[u8], start: usize, end: usize) -> bool
     requires { ⌜ (start ≤ end) × (end ≤ length (now s)) ⌝ }
     ensures { λ r. ⌜ (r ≡ true → isText (slice (now (s .entry)) start end) ≡ true) ⌝ }

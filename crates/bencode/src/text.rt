@@ -56,8 +56,9 @@ fn highest(b: u8) -> u8
     0xBF
 }
 
-// The offset up to which the text goes on in ASCII, at most eight bytes further, where so many bytes of a character are to come.
-fn passed(x: &[u8], i: usize, left: u8) -> usize
+// Eight bytes further where those are ASCII and no byte of a character is to come, else the same offset: what is left from there on
+// decides as it did.
+fn after_ascii(x: &[u8], i: usize, left: u8) -> usize
     requires { ⌜ i ≤ length (now x) ⌝ }
     ensures { λ r. ⌜ (i ≤ r) × (r ≤ length (now (x .entry))) × ((low high : ℕ) → textFrom left low high (drop r (now (x .entry))) ≡ textFrom left low high (drop i (now (x .entry)))) ⌝ }
 {
@@ -82,7 +83,7 @@ pub fn is_text(x: &[u8]) -> bool
     let mut high: u8 = 0xBF;
     let mut i = 0;
     loop {
-        let at = passed(x, i, left);
+        let at = after_ascii(x, i, left);
         if x.len() <= at {
             return left == 0;
         }

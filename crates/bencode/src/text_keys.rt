@@ -1,5 +1,5 @@
-// A dictionary's keys as they are read: strings that are text. Both functions ask `is_text` themselves: what two call stays a call,
-// so that the walk's loop over entries does not hold its code.
+// A dictionary's keys as they are read: strings that are text. Both functions ask `is_text` themselves: the compiler then leaves it a
+// call, and the walk's loop over entries does not hold its code.
 ghost use mathlib.Core.Path.{_≡_};
 ghost use Rattle.bencode.specs.Fault.{fault};
 ghost use Rattle.bencode.specs.Strings.{textEnd};
@@ -13,7 +13,7 @@ use super::strings::string;
 use super::text::is_text;
 
 // The fault of a key at an offset that is no text: at its first length digit.
-fn no_text(at: usize) -> Fault
+fn ill_formed_key(at: usize) -> Fault
     ensures { λ r. ⌜ r ≡ fault 10 at ⌝ }
 {
     Fault {
@@ -39,13 +39,13 @@ pub fn key_string(s: &[u8], at: usize) -> Text
             if is_text(&s[start..end]) {
                 return Text::Bytes { start, end };
             }
-            Text::Fault(no_text(at))
+            Text::Fault(ill_formed_key(at))
         }
         Text::Fault(f) => Text::Fault(f),
     }
 }
 
-// The offset after the key at an offset.
+// The offset after the key at an offset, or its fault, for which a walk asks where `key_string` gave none to go on with.
 pub fn key_end(s: &[u8], at: usize) -> Walk
     ensures { λ r. ⌜ r ≡ textEnd (keyTextAt (now (s .entry)) at) ⌝ }
 {
@@ -54,7 +54,7 @@ pub fn key_end(s: &[u8], at: usize) -> Walk
             if is_text(&s[start..end]) {
                 return Walk::End(end);
             }
-            Walk::Fault(no_text(at))
+            Walk::Fault(ill_formed_key(at))
         }
         Text::Fault(f) => Walk::Fault(f),
     }

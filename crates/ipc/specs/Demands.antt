@@ -75,7 +75,7 @@ pub record Headed (s : List ℕ) (n : ℕ) (after : List ℕ) : Type 0 where
   pub hex : HexDigits header
   pub number : hexFrom 0 header ≡ n
 
--- the rows of document 01's table 'What the reader says': when bytes have an answer
+-- the rows of document 01's table 'What the reader says', and 10 of document 02, request 03: when bytes have an answer
 pub data AnswerRow (s : List ℕ) : Answer → Type 0 where
   -- 0, and 20 to 22: a frame of the grammar
   framed : {a : Answer} → Framed s a → AnswerRow s a

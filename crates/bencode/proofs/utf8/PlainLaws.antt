@@ -25,7 +25,7 @@ plain-eight s at b (suc (suc (suc (suc (suc (suc zero)))))) h = b .6
 plain-eight s at b (suc (suc (suc (suc (suc (suc (suc zero))))))) h = b .7
 plain-eight s at b (suc (suc (suc (suc (suc (suc (suc (suc k)))))))) h = absurd (omega (arith, h))
 
--- more bytes after some, and fewer
+-- no bytes, and fewer
 pub plain-none : (s : List ℕ) (at : ℕ) → PlainAt s at 0
 plain-none s at k h = absurd (omega (arith, h))
 
@@ -74,11 +74,11 @@ plain-text s start end o w p =
         let e : byteAt x (0 + k) ≡ byteAt s (start + k) = ap (byteAt x) z ∙ getD-take n (drop start s) k 0 h ∙ getD-drop start s k 0 in
         subst Plain (sym e) (p k h)
 
--- the text goes on eight bytes further, or stays where it is
-pub passed-eight : (x : List ℕ) (i left : ℕ) → left ≡ 0 → i + 8 ≤ length x → PlainAt x i 8 → (low high : ℕ) → textFrom left low high (drop (i + 8) x) ≡ textFrom left low high (drop i x)
-passed-eight x i left z l p low high = rw z (plain-steps x low high 8 i l p)
+-- eight bytes further what is left decides as it did
+pub eight-further : (x : List ℕ) (i left : ℕ) → left ≡ 0 → i + 8 ≤ length x → PlainAt x i 8 → (low high : ℕ) → textFrom left low high (drop (i + 8) x) ≡ textFrom left low high (drop i x)
+eight-further x i left z l p low high = rw z (plain-steps x low high 8 i l p)
 
--- plain bytes after others
+-- eight bytes more
 pub plain-more : (s : List ℕ) (from i : ℕ) → from ≤ i → PlainAt s from (i - from) → PlainAt s i 8 → PlainAt s from (i + 8 - from)
 plain-more s from i o p q k h = go (lt-or-le k (i - from))
   where

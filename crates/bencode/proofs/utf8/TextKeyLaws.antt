@@ -12,7 +12,7 @@ use Rattle.octets.specs.Bytes.{slice}
 use Rattle.bencode.specs.Fault.{fault}
 use Rattle.bencode.specs.Strings.{stringAt}
 use Rattle.bencode.specs.Utf8.{isText}
-use Rattle.bencode.specs.Key.{placeFault, keyFault}
+use Rattle.bencode.specs.Key.{comparedFault, keyFault}
 use Rattle.bencode.specs.KeySearch.{asKey, keyTextAt}
 
 module _ (s : List ℕ) (at : ℕ) where
@@ -47,7 +47,7 @@ module _ (s : List ℕ) (at : ℕ) where
 
 -- ---- the fault of a key, by whether it is a text
 module _ (p : Profile) (keys : List (List ℕ)) (key : List ℕ) where
-  pub fault-of-text : isText key ≡ true → keyFault p keys key ≡ placeFault p keys key
+  pub fault-of-text : isText key ≡ true → keyFault p keys key ≡ comparedFault p keys key
   unfolding keyFault
   fault-of-text t = rw t refl
 

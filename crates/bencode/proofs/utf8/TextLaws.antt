@@ -52,7 +52,7 @@ module _ (x : List ℕ) (i low high : ℕ) (p : i < length x) where
   unfolding textFrom
   first-step = rw (add-one i, drop-cons x i 0 p) refl
 
-  next-step : (n : ℕ) → textFrom (suc n) low high (drop i x) ≡ cond (leb low (getD x i 0)) (cond (leb (getD x i 0) high) (textFrom n 128 191 (drop (i + 1) x)) false) false
+  next-step : (n : ℕ) → textFrom (suc n) low high (drop i x) ≡ cond (leb low (getD x i 0)) (cond (leb (getD x i 0) high) (textFrom n 0x80 0xBF (drop (i + 1) x)) false) false
   unfolding textFrom
   next-step n = rw (add-one i, drop-cons x i 0 p) refl
 
@@ -70,6 +70,6 @@ module _ (x : List ℕ) (i low high : ℕ) (p : i < length x) where
   text-high zero s l h = absurd (s refl)
   text-high (suc n) s l h = rw (next-step n, le-leb low (getD x i 0) l, lt-leb (getD x i 0) high h) refl
 
-  pub text-next : (left : ℕ) → (left ≡ 0 → ⊥) → low ≤ getD x i 0 → getD x i 0 ≤ high → textFrom (left - 1) 128 191 (drop (i + 1) x) ≡ textFrom left low high (drop i x)
+  pub text-next : (left : ℕ) → (left ≡ 0 → ⊥) → low ≤ getD x i 0 → getD x i 0 ≤ high → textFrom (left - 1) 0x80 0xBF (drop (i + 1) x) ≡ textFrom left low high (drop i x)
   text-next zero s l h = absurd (s refl)
   text-next (suc n) s l h = let e : suc n - 1 ≡ n = omega arith in rw (e, next-step n, le-leb low (getD x i 0) l, le-leb (getD x i 0) high h) refl

@@ -1,4 +1,4 @@
--- Eight bytes tested as one number: where the two tests of `plain_at` pass, each byte is 1 to 7F.
+-- Eight bytes tested as one number: where the two tests of `are_plain` pass, each byte is 1 to 7F.
 -- Assumes nothing.
 use Prim.Native.Nat.{ℕ, _+_, _*_, _-_, _^_, _≤_, _<_}
 use mathlib.Core.Path.{_≡_, refl, sym, ap, _∙_}

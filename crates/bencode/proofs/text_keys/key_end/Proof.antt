@@ -50,15 +50,15 @@ returns c =
 enum-known-f : tie.Need-enum-known-f
 enum-known-f c = search needs
 
-no-text-requires : tie.Need-no-text-requires
-no-text-requires c κs = search needs
+ill-formed-key-requires : tie.Need-ill-formed-key-requires
+ill-formed-key-requires c κs = search needs
 
 returns-2 : tie.Need-returns-2
 returns-2 c =
     let a = c .before .before .before .before .before .before .before .before .before .args in
     let k = c .before .before .before .before .before .start .given in
     let text = sym (c .before .before .before .before .before .before .before .string .ensures) ∙ k .1 in
-    ap Walk.Fault (c .no-text .ensures) ∙ ap textEnd (key-no-text (a .s .now) (a .at) (k .0 .0) (k .0 .1 .0) text (sym (c .before .before .is-text .ensures) ∙ c .before .if1 .left))
+    ap Walk.Fault (c .ill-formed-key .ensures) ∙ ap textEnd (key-no-text (a .s .now) (a .at) (k .0 .0) (k .0 .1 .0) text (sym (c .before .before .is-text .ensures) ∙ c .before .if1 .left))
 
 returns-3 : tie.Need-returns-3
 returns-3 c =
@@ -76,7 +76,7 @@ key-end-spec =
     part-is-text-end
     is-text-requires
     returns
-    no-text-requires
+    ill-formed-key-requires
     enum-known-f
     returns-2
     returns-3)

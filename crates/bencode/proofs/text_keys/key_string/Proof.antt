@@ -67,15 +67,15 @@ returns-2 c =
 enum-known-f : tie.Need-enum-known-f
 enum-known-f c = search needs
 
-no-text-requires : tie.Need-no-text-requires
-no-text-requires c κs = search needs
+ill-formed-key-requires : tie.Need-ill-formed-key-requires
+ill-formed-key-requires c κs = search needs
 
 returns-3 : tie.Need-returns-3
 returns-3 c =
     let a = c .before .before .before .before .before .before .before .before .before .before .before .args in
     let k = c .before .before .before .before .before .start .given in
     let text = sym (c .before .before .before .before .before .before .before .string .ensures) ∙ k .1 in
-    ap Text.Fault (c .no-text .ensures) ∙ key-no-text (a .s .now) (a .at) (k .0 .0) (k .0 .1 .0) text (sym (c .before .before .is-text .ensures) ∙ c .before .if3 .left)
+    ap Text.Fault (c .ill-formed-key .ensures) ∙ key-no-text (a .s .now) (a .at) (k .0 .0) (k .0 .1 .0) text (sym (c .before .before .is-text .ensures) ∙ c .before .if3 .left)
 
 returns-4 : tie.Need-returns-4
 returns-4 c =
@@ -96,7 +96,7 @@ key-string-spec =
     part-is-text-end
     is-text-requires
     returns-2
-    no-text-requires
+    ill-formed-key-requires
     enum-known-f
     returns-3
     returns-4)

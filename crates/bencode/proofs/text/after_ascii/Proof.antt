@@ -1,12 +1,12 @@
--- `bencode::text::passed` meets its contract: eight bytes of ASCII further the text is the same.
+-- `bencode::text::after_ascii` meets its contract: eight bytes of ASCII further the text is the same.
 -- Assumes nothing.
 use Prim.Native.Nat.{_+_, _≤_}
 use native.Mathlib.Omega.{arith}
 use lib.ListN.{length}
-use Rattle.bencode.proofs.utf8.PlainLaws.{passed-eight}
+use Rattle.bencode.proofs.utf8.PlainLaws.{eight-further}
 use borrow.Author.Needs.{needs}
-use Rattle.bencode.proofs.text.passed.Statement.{statement}
-use Rattle.bencode.proofs.text.passed.Tie as tie
+use Rattle.bencode.proofs.text.after_ascii.Statement.{statement}
+use Rattle.bencode.proofs.text.after_ascii.Tie as tie
 
 returns : tie.Need-returns
 returns c = search needs
@@ -27,11 +27,11 @@ returns-3 : tie.Need-returns-3
 returns-3 c =
     let a = c .before .before .before .before .before .args in
     let room : a .i + 8 ≤ length (a .x .now) = omega (arith, c .before .before .before .before .before .pre, c .before .before .if2 .left) in
-    (omega arith, room, passed-eight (a .x .now) (a .i) (a .left) (c .before .before .before .if1 .left) room (c .before .plain-at .ensures (c .if3 .taken)))
+    (omega arith, room, eight-further (a .x .now) (a .i) (a .left) (c .before .before .before .if1 .left) room (c .before .plain-at .ensures (c .if3 .taken)))
 
 returns-4 : tie.Need-returns-4
 returns-4 c = search needs
 
-pub passed-spec : {M : Type 1} → statement M
-passed-spec =
+pub after-ascii-spec : {M : Type 1} → statement M
+after-ascii-spec =
     tie.close (tie.spec returns sub-if2 returns-2 plain-at-requires add-result returns-3 returns-4)
