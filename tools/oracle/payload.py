@@ -20,7 +20,7 @@ import random
 import sys
 
 MALFORMED, RANGE, DEPTH, REPEATED, TRAILING = 5, 6, 7, 8, 9
-NO_TEXT, UNSORTED = 10, 11
+ILL_FORMED, UNSORTED = 10, 11
 MAX_LEVELS = 16
 INT_MIN, INT_MAX = -(2**63), 2**63 - 1
 DIGITS = frozenset(b"0123456789")
@@ -121,7 +121,7 @@ class Parser:
             start = self.pos
             key = self.string()
             if not is_text(key):
-                raise Fault(NO_TEXT, start)
+                raise Fault(ILL_FORMED, start)
             if key in known:
                 raise Fault(REPEATED, start)
             if self.strict and keys and key <= keys[-1]:

@@ -36,7 +36,7 @@ AcceptsExactly = (p : Profile) (s : List ℕ) → (payloadAt p s ≡ Walk.End (l
 abbrev pub OneValue : Type 0
 OneValue = (v w : Value) → encode v ≡ encode w → v ≡ w
 
--- request 03, of any recogniser: bytes are a text exactly where they are the joined UTF-8 encodings of characters
+-- request 03, of any recogniser: it takes exactly the joined UTF-8 encodings of characters
 abbrev pub KeyTextFor : (List ℕ → Bool) → Type 0
 KeyTextFor recognise = (key : List ℕ) → (recognise key ≡ true) ↔ Utf8Text key
 

@@ -1,6 +1,6 @@
 -- Which keys are allowed is pinned by `KeysOnce` and `KeysRise`, 10 by `TenForNoText`; the other codes and `isFaultCode` are to be
 -- believed. The key rule: which keys may follow which in a dictionary (document 01, 'The frame': in any order, and no key twice;
--- document 02, request 03: keys are text).
+-- document 02, request 03: keys are text; request 06: the strict profile).
 -- Assumes nothing.
 use Prim.Native.Nat.{ℕ}
 use mathlib.Core.Bool.{Bool, true, false, cond, _&&_, _||_}
@@ -33,10 +33,11 @@ comparedFault p keys key = cond (isUsed key keys) 8 (orderFault p (isAbove key k
 unfoldable pub keyFault : Profile → List (List ℕ) → List ℕ → ℕ
 keyFault p keys key = cond (isText key) (comparedFault p keys key) 10
 
--- the codes of a profile's faults: 5 to 10, and 11 in the strict one
+-- is a code that of the order, 11 in the strict profile
 abbrev pub isOrderCode : Profile → ℕ → Bool
 isOrderCode Profile.Loose c = false
 isOrderCode Profile.Strict c = eqb c 11
 
+-- is a code one of a profile's faults: 5 to 10, and 11 in the strict one
 abbrev pub isFaultCode : Profile → ℕ → Bool
 isFaultCode p c = (leb 5 c && leb c 10) || isOrderCode p c

@@ -1,5 +1,5 @@
 -- Pinned by the promise of the walk's `dictionary`, which is over the list of earlier keys; nothing public cites it. How the key
--- rule is checked from the payload, with no such list: whether a key is text where it is read, its order afterwards.
+-- rule is checked from the payload, with no such list: whether a key is text where it is read, the rest afterwards.
 -- Assumes nothing.
 use Prim.Native.Nat.{ℕ}
 use mathlib.Core.Bool.{Bool, true, false, cond}

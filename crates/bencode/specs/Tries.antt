@@ -1,5 +1,5 @@
--- Statements that antt computes: texts and no texts about the borders of RFC 3629's table, its examples as they are encoded, and
--- where and when 10 is given (document 02, request 03).
+-- Statements that antt computes: bytes that are text and bytes that are none, about the borders of RFC 3629's table; its
+-- examples as they are encoded; where and when 10 is given (document 02, request 03).
 -- Assumes nothing.
 use Prim.Native.Nat.{ℕ}
 use mathlib.Core.Path.{_≡_}
@@ -52,16 +52,16 @@ tries =
 abbrev pub TextsTried : Type 0
 TextsTried = map (λ t. isText (t .bytes)) tries ≡ map (λ t. t .recognised) tries
 
--- the examples of RFC 3629, section 7, as they are encoded: 'A', not identical to, Alpha, '.'; Korean 'hangugeo'; Japanese 'nihongo'; a
--- byte order mark and U+233B4
+-- the examples of RFC 3629, section 7, as they are encoded: 'A', not identical to, Alpha, '.'; Korean 'hangugeo'; Japanese
+-- 'nihongo'; a byte order mark and U+233B4
 abbrev pub TextsEncoded : Type 0
 TextsEncoded = (utf8All (0x41 ∷ 0x2262 ∷ 0x391 ∷ 0x2E ∷ []) ≡ 0x41 ∷ 0xE2 ∷ 0x89 ∷ 0xA2 ∷ 0xCE ∷ 0x91 ∷ 0x2E ∷ [])
     × (utf8All (0xD55C ∷ 0xAD6D ∷ 0xC5B4 ∷ []) ≡ 0xED ∷ 0x95 ∷ 0x9C ∷ 0xEA ∷ 0xB5 ∷ 0xAD ∷ 0xEC ∷ 0x96 ∷ 0xB4 ∷ [])
     × (utf8All (0x65E5 ∷ 0x672C ∷ 0x8A9E ∷ []) ≡ 0xE6 ∷ 0x97 ∷ 0xA5 ∷ 0xE6 ∷ 0x9C ∷ 0xAC ∷ 0xE8 ∷ 0xAA ∷ 0x9E ∷ [])
     × (utf8All (0xFEFF ∷ 0x233B4 ∷ []) ≡ 0xEF ∷ 0xBB ∷ 0xBF ∷ 0xF0 ∷ 0xA3 ∷ 0x8E ∷ 0xB4 ∷ [])
 
--- `d1:` and FF is 10 at the key's first length digit, though no value follows; `d2:` and FF is cut, so 5 at the end; a key `a` and FF after
--- `b` is 10 in the strict profile too, not 11
+-- `d1:` and FF is 10 at the key's first length digit, though no value follows; `d2:` and FF is cut, so 5 at the end; a key
+-- `a` and FF after `b` is 10 in the strict profile too, not 11
 abbrev pub PlacesTried : Type 0
 PlacesTried = (payloadAt Profile.Loose (ascii "d1:" ++ (0xFF ∷ [])) ≡ Walk.Fault (fault 10 1))
     × (payloadAt Profile.Loose (ascii "d2:" ++ (0xFF ∷ [])) ≡ Walk.Fault (fault 5 4))

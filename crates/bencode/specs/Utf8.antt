@@ -1,6 +1,6 @@
--- `Utf8Text` is to be believed, `isText` is pinned by `KeyText`; the part on ASCII by the promises of `is_text` and `key_string`, and
--- nothing public cites it. Text: UTF-8 by RFC 3629, with no zero byte (document 02, request 03). `Utf8Text` is by encoding (the
--- RFC's section 3), `isText` recognises bytes by their ranges (section 4).
+-- `Utf8Text` is to be believed, `isText` is pinned by `KeyText`; the part on ASCII by the promises of `is_text` and
+-- `key_string`, and nothing public cites it. Text: UTF-8 by RFC 3629, with no zero byte (document 02, request 03). `Utf8Text`
+-- is by encoding (the RFC's section 3), `isText` recognises bytes by their ranges (section 4).
 -- Assumes nothing.
 use Prim.Native.Nat.{ℕ, zero, suc, _+_, _*_, _/_, _%_, _≤_, _<_}
 use mathlib.Core.Path.{_≡_}
@@ -15,10 +15,11 @@ use Rattle.octets.specs.Bytes.{byteAt}
 abbrev pub Character : ℕ → Type 0
 Character c = (0 < c) × ((c < 0xD800) ⊎ (0xE000 ≤ c)) × (c ≤ 0x10FFFF)
 
--- a number without its last six bits, and the byte 10xxxxxx that has them
+-- a number without its last six bits
 abbrev pub leading : ℕ → ℕ
 leading c = c / 64
 
+-- the byte 10xxxxxx with the last six bits of a number, the RFC's UTF8-tail
 abbrev pub tail : ℕ → ℕ
 tail c = 0x80 + c % 64
 
@@ -75,15 +76,15 @@ abbrev pub isText : List ℕ → Bool
 isText s = textFrom 0 0x80 0xBF s
 
 -- ---- ASCII, eight bytes at a time
--- a byte that is a character by itself: ASCII but 0
+-- a plain byte, a character by itself: ASCII but 0
 abbrev pub Plain : ℕ → Type 0
 Plain b = (0 < b) × (b ≤ 0x7F)
 
--- so many bytes from an offset on are
+-- so many bytes from an offset on are plain
 abbrev pub PlainAt : List ℕ → ℕ → ℕ → Type 0
 PlainAt s at n = (k : ℕ) → k < n → Plain (byteAt s (at + k))
 
--- eight bytes are
+-- eight bytes are plain
 abbrev pub PlainBytes : ℕ → ℕ → ℕ → ℕ → ℕ → ℕ → ℕ → ℕ → Type 0
 PlainBytes a b c d e f g h = Plain a × Plain b × Plain c × Plain d × Plain e × Plain f × Plain g × Plain h
 

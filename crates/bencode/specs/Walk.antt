@@ -31,7 +31,7 @@ listStep value s = itemStep s (λ end x. Walk.End end) (λ at x. onward (value a
 unfoldable pub listFrom : (ℕ → Walk) → List ℕ → ℕ → Walk
 listFrom value s at = repeatFrom s (listStep value s) (Walk.Fault (fault 5 at)) at tt
 
--- the value of a key whose fault has a code, 0 for none: a key is compared before its value is walked
+-- the value of a key whose fault has a code, 0 for none: a key is judged before its value is walked
 abbrev pub keyed : ℕ → ℕ → (ℕ → Walk) → ℕ → List (List ℕ) → LoopStep (List (List ℕ)) Walk
 keyed code at value end keys = cond (eqb code 0) (onward (value end) keys) (done (Walk.Fault (fault code at)))
 

@@ -16,10 +16,11 @@ DifferentFalls = (recognise : List ℕ → Bool) (key : List ℕ) → (recognise
 abbrev pub AnyBytesFalls : Type 0
 AnyBytesFalls = KeyTextFor (λ key. true) → ⊥
 
--- one that takes ASCII alone
+-- are bytes ASCII, none of them 0
 unfoldable pub isAscii : List ℕ → Bool
 isAscii [] = true
 isAscii (b ∷ bs) = (leb 1 b && leb b 0x7F) && isAscii bs
 
+-- a recogniser that takes those alone
 abbrev pub AsciiAloneFalls : Type 0
 AsciiAloneFalls = KeyTextFor isAscii → ⊥

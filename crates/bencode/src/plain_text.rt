@@ -1,4 +1,4 @@
-// ASCII text found eight bytes at a time, as most keys are: a character of one byte needs no further test.
+// ASCII text, as most keys are, told eight bytes at a time: a character of one byte needs no further test.
 ghost use mathlib.Core.Path.{_≡_};
 ghost use mathlib.Core.Bool.{true};
 ghost use Prim.Native.Nat.{_+_, _≤_};
@@ -10,7 +10,7 @@ use octets::wide;
 // The highest bit of each of eight bytes.
 const HIGH: u64 = 0x8080808080808080;
 
-// Added to eight bytes below 0x80, it sets the highest bit of each but the zeros.
+// Added to eight bytes up to 7F, it sets the highest bit of each but the zeros.
 const LOW: u64 = 0x7F7F7F7F7F7F7F7F;
 
 // Eight bytes as one number, the first one the lowest: where they stand one after another, they are read at once.

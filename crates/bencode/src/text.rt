@@ -56,8 +56,8 @@ fn highest(b: u8) -> u8
     0xBF
 }
 
-// Eight bytes further where those are ASCII and no byte of a character is to come, else the same offset: what is left from there on
-// decides as it did.
+// Eight bytes further where those are ASCII but 0 and no byte of a character is to come, else the same offset: what is left from
+// there on decides as it did.
 fn after_ascii(x: &[u8], i: usize, left: u8) -> usize
     requires { ⌜ i ≤ length (now x) ⌝ }
     ensures { λ r. ⌜ (i ≤ r) × (r ≤ length (now (x .entry))) × ((low high : ℕ) → textFrom left low high (drop r (now (x .entry))) ≡ textFrom left low high (drop i (now (x .entry)))) ⌝ }

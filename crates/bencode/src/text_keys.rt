@@ -1,5 +1,5 @@
-// A dictionary's keys as they are read: strings that are text. Both functions ask `is_text` themselves: the compiler then leaves it a
-// call, and the walk's loop over entries does not hold its code.
+// A dictionary's keys as they are read: strings that are text. `key_string` and `key_end` each ask `is_text`: the compiler then
+// leaves it a call, and the walk's loop over entries does not hold its code.
 ghost use mathlib.Core.Path.{_≡_};
 ghost use Rattle.bencode.specs.Fault.{fault};
 ghost use Rattle.bencode.specs.Strings.{textEnd};
@@ -45,7 +45,7 @@ pub fn key_string(s: &[u8], at: usize) -> Text
     }
 }
 
-// The offset after the key at an offset, or its fault, for which a walk asks where `key_string` gave none to go on with.
+// The offset after the key at an offset, or the fault. A walk asks for it where `key_string` gave a fault.
 pub fn key_end(s: &[u8], at: usize) -> Walk
     ensures { λ r. ⌜ r ≡ textEnd (keyTextAt (now (s .entry)) at) ⌝ }
 {
