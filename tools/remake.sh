@@ -32,7 +32,7 @@ hold() {
     fi
 }
 
-for oracle in payload frame; do
+for oracle in payload canonical frame; do
     python3 -B -m "oracle.$oracle" --self-test >/dev/null
 done
 

@@ -3,7 +3,7 @@
 A case is one byte of operation, a length in 4 bytes, little-endian, and so
 many bytes of body; its line is what oracle.frame.line gives. The last case
 is cut short. Operations: r read, w write, s write a handshake, a agreed
-version.
+version, R read in the strict profile.
 
 In tools/, python3 -B -m generate.frame_cases FOLDER writes FOLDER/stdin and
 FOLDER/stdout: the same on every run, since all choices come from a fixed seed.
@@ -15,16 +15,19 @@ import struct
 import sys
 
 from generate.chance import Chance
+from generate.encoded import (
+    REPLACEMENTS, dictionary, integer, listing, mutated, nested, random_text,
+    random_value, string)
 from generate.key_texts import (
     CHOSEN, KEY_TEXTS, NO_KEYS, damaged, random_key, run)
 from generate.payload_cases import (
-    BETWEEN, EXAMPLES, FAULTY, FRAMES, REPLACEMENTS, SCOPE, SOUND,
-    dictionary, integer, listing, mutated, nested, random_text, random_value,
-    string)
+    BETWEEN, EXAMPLES, FAULTY, FRAMES, SCOPE, SOUND)
+from oracle.canonical import sort
 from oracle.frame import FAULT, MAX_PAYLOAD, TABLE, line, read, write
 
 MAX_BODY = 131072
 SIZE_LIMIT = 3000000
+LINES_LIMIT = 1040000  # a program that is tried may print 1 MiB
 KEYS = [key for key, _ in TABLE]
 LARGEST = 2147483647
 
@@ -744,13 +747,174 @@ def write_cases():
         agreements(chance), decimal_borders())
 
 
+# Cases of the strict reader.
+
+def strict_again():
+    """Frames of the loose reader: those on which the profiles differ, all but
+    the long ones, some of them with sorted dictionaries too, and one of eight
+    of the others."""
+    others = unsorted = 0
+    for _, body in read_cases():
+        if len(body) > 400:
+            continue
+        loose = read(body)
+        if read(body, True) == loose:
+            others += 1
+            if others % 8 == 0:
+                yield body
+            continue
+        yield body
+        unsorted += loose.code == 0
+        if loose.code == 0 and unsorted % 3 == 0:
+            yield in_order(body)
+
+
+def in_order(whole):
+    """An accepted frame, and nothing after it, with sorted dictionaries."""
+    payload = whole[8:read(whole).consumed]
+    return frame(sort(payload, MAX_PAYLOAD)[2])
+
+
+# Entries whose keys fall, and the same in order.
+FALLING = [(b"b", b"i1e"), (b"a", b"i2e")]
+RISING = FALLING[::-1]
+NAME, HASH = (b"name", b"1:x"), (b"hash", b"0:")
+
+
+def strict_torrents():
+    """Keys in every order, in the list, in a torrent and below it."""
+    for key in (b"info", b"status"):
+        for order in itertools.permutations((HASH, ID, NAME)):
+            torrent = dictionary(*order)
+            yield message(key, listing(torrent))
+            yield message(key, listing(dictionary(ID), torrent), b"i7e")
+        for entries in (FALLING, RISING):
+            inner = dictionary(*entries)
+            yield message(key, inner)
+            yield message(key, listing(inner))
+            yield message(key, listing(dictionary(ID, (b"x", inner))))
+            yield message(key, listing(dictionary((b"a", inner), ID)))
+            yield message(key, listing(dictionary(ID, (b"x", listing(inner)))))
+            yield message(key, listing(dictionary((b"id", inner))))
+            yield message(key, listing(dictionary(ID), b"i1e", inner))
+            yield message(key, listing(dictionary(ID)), inner)
+            yield message(key, listing(dictionary(ID)), b"i1e", inner)
+            for depth in range(1, 15):
+                for kind in "ld":
+                    deep = nested(kind * depth, inner)
+                    yield message(key, listing(dictionary(ID, (b"x", deep))))
+
+
+def strict_messages():
+    """Every key with a value whose keys fall, and with one whose keys rise."""
+    for key, form in TABLE + [(b"x", "any"), (b"\xff", "any"), (b"", "any")]:
+        for entries in (FALLING, RISING):
+            inner = dictionary(*entries)
+            yield message(key, inner, b"i9e")
+            yield message(key, listing(b"i1e", inner))
+            yield message(key, RIGHT.get(form, b"0:"), inner)
+            yield frame(listing(string(key), inner)) + b"0000"
+    for entries in (FALLING, RISING):
+        inner = dictionary(*entries)
+        yield frame(inner)
+        yield frame(listing(inner))
+        yield frame(listing(inner, inner))
+        yield frame(listing(b"i1e", inner, b"i1e"))
+        for depth in range(1, 17):
+            for kinds in ("l" * depth, "d" * depth, ("ld" * depth)[:depth]):
+                yield frame(nested(kinds, inner))
+    # Bytes of a key that fall inside strings, and lists, are in no order.
+    yield message(b"get-status-all", b"l1:b1:ae")
+    yield message(b"start", b"li2ei1ee")
+    yield message(b"failed", string(dictionary(*FALLING)))
+
+
+def strict_handshakes():
+    least, most = (b"min", b"i1e"), (b"max", b"i2e")
+    version = (b"version", dictionary(most, least))
+    for order in itertools.permutations((least, most, (b"x", b"0:"))):
+        yield hello(dictionary(*order))
+        yield hello(dictionary(*order), (b"z", b"0:"))
+    for order in itertools.permutations((version, (b"a", b"0:"),
+                                         (b"z", b"de"))):
+        yield frame(dictionary(*order))
+        yield frame(dictionary(*order, order[0]))
+    for entries in (FALLING, RISING):
+        inner = dictionary(*entries)
+        yield frame(dictionary((b"a", inner), version))
+        yield frame(dictionary(version, (b"z", listing(inner))))
+        yield hello(dictionary(most, least, (b"z", inner)))
+        yield hello(dictionary((b"a", inner), most, least))
+        yield hello(inner)
+    for low, high in ((b"i0e", b"i2e"), (b"i3e", b"i2e"), (b"0:", b"i2e")):
+        yield hello(dictionary((b"min", low), (b"max", high)))
+        yield hello(dictionary((b"max", high), (b"min", low)))
+
+
+# Keys in an order that a wrong comparison takes the other way round.
+ORDERS = [
+    (b"aa", b"b"), (b"b", b"aa"), (b"aaaaaaaaaa", b"b" * 9), (b"", b"\x01"),
+    (b"a" * 9, b"a" * 10), (b"a" * 10, b"a" * 9), (b"\x7f", b"\xc2\x80"),
+    (b"\xc2\x80", b"\x7f"), (b"\xef\xbf\xbf", b"\xf0\x90\x80\x80"),
+    (b"B", b"a"), (b"a", b"B"), (b"10", b"9"), (b"9", b"10"),
+    (b"abcdefgha", b"abcdefghb"), (b"abcdefghb", b"abcdefgha"),
+    (b"abcdefgh", b"abcdefgha"), (b"abcdefgha", b"abcdefgh"),
+]
+
+
+def strict_keys():
+    """8 before 11, 10 before 11, and 11 at first and later keys."""
+    for size in (2, 3, 4):
+        for keys in itertools.product((b"a", b"b", b"c"), repeat=size):
+            yield hello(b"i2e", *((b"w" + key, b"0:") for key in keys))
+    for bad in (b"\xff", b"a\xff", b"a\x00", b"z\x00"):
+        for order in itertools.permutations((b"b", b"m", bad)):
+            yield frame(dictionary(*((key, b"0:") for key in order)))
+        for key in (b"a", b"b", b"c"):
+            yield frame(dictionary((b"b", b"0:"), (key, b"0:"), (bad, b"0:")))
+    for keys in ORDERS:
+        entries = [(key, integer(at)) for at, key in enumerate(keys)]
+        yield message(b"noop", dictionary(*entries))
+        yield message(b"info", listing(dictionary((b"id", b"i3e"), (
+            b"x", dictionary(*entries)))))
+
+
+def strict_faults():
+    """Faults before and after an 11, in its key and in its value."""
+    for bad in FAULTY:
+        yield frame(dictionary(*FALLING, (b"c", bad)))
+        yield frame(dictionary((b"b", b"0:"), (b"a", bad)))
+        yield frame(dictionary((b"b", bad), (b"a", b"0:")))
+        yield frame(dictionary(*FALLING) + bad)
+        yield message(b"noop", dictionary(*FALLING), bad)
+        yield message(b"info", listing(bad, dictionary(*FALLING)))
+        yield message(b"info", listing(dictionary(ID, HASH)), bad)
+    for whole in (frame(dictionary(*FALLING)), hello(ranged(b"i1e", b"i2e")),
+                  message(b"info", listing(dictionary(NAME, ID)))):
+        for size in range(len(whole)):
+            yield whole[:size]
+            yield frame(whole[8:][:size])
+
+
+def strict_cases():
+    groups = [strict_again(), strict_torrents(), strict_messages(),
+              strict_handshakes(), strict_keys(), strict_faults()]
+    longest = frame(filled(b"info", info_list, MAX_PAYLOAD))
+    groups.append([longest, in_order(longest)])
+    for body in dict.fromkeys(itertools.chain(*groups)):
+        yield b"R", body
+
+
 def main(folder):
-    made = itertools.chain(read_cases(), write_cases())
+    made = itertools.chain(read_cases(), write_cases(), strict_cases())
     cases, lines, counts = bytearray(), bytearray(), {}
     for operation, body in dict.fromkeys(made):
         assert len(body) <= MAX_BODY
         text = line(operation, body)
         assert text != FAULT
+        # The strict profile adds 11, and nothing else.
+        assert (operation != b"R" or text.startswith("11 ")
+                or text == line(b"r", body))
         cases += operation + struct.pack("<I", len(body)) + body
         lines += text.encode() + b"\n"
         row = counts.setdefault(operation.decode(), {})
@@ -758,7 +922,7 @@ def main(folder):
         row[code] = row.get(code, 0) + 1
     cases += b"r" + struct.pack("<I", 18) + b"0000000Al4:noop0:"
     lines += FAULT.encode() + b"\n"
-    assert len(cases) <= SIZE_LIMIT
+    assert len(cases) <= SIZE_LIMIT and len(lines) <= LINES_LIMIT
     (folder / "stdin").write_bytes(cases)
     (folder / "stdout").write_bytes(lines)
     for operation, row in counts.items():

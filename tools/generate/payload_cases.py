@@ -1,8 +1,10 @@
 """Makes the stored cases of payload_cases, and their lines.
 
-A case is one byte of operation (l loose, s strict profile), a length in 4
-bytes, little-endian, and so many bytes of payload. Its line is the code and
-the offset that oracle.payload.walk gives. The last case is cut short.
+A case is one byte of operation, a length in 4 bytes, little-endian, and so
+many bytes of body. Operations: l and s walk a payload in the loose and in the
+strict profile, and their line is the code and the offset that
+oracle.payload.walk gives; o sorts one, and its line is that of
+oracle.canonical. The last case is cut short.
 
 In tools/, python3 -B -m generate.payload_cases FOLDER writes FOLDER/stdin and
 FOLDER/stdout: the same on every run, since all choices come from a fixed seed.
@@ -14,30 +16,19 @@ import struct
 import sys
 
 from generate.chance import Chance
+from generate.encoded import (
+    REPLACEMENTS, dictionary, integer, listing, mutated, nested, random_value,
+    string)
 from generate.key_texts import (
     CHOSEN, KEY_TEXTS, MIDDLES, damaged, random_key, run)
+from generate.sort_cases import case, sort_cases
+from generate.value_pairs import value_pairs
+from oracle.canonical import line, same_value, sort
 from oracle.payload import walk
 
 MAX_BODY = 131072
-SIZE_LIMIT = 2000000
-
-
-# Encoders. They write what they are told, in that order, sound or not.
-
-def integer(n):
-    return b"i%de" % n
-
-
-def string(text):
-    return b"%d:%s" % (len(text), text)
-
-
-def listing(*values):
-    return b"l" + b"".join(values) + b"e"
-
-
-def dictionary(*pairs):
-    return b"d" + b"".join(string(k) + v for k, v in pairs) + b"e"
+SIZE_LIMIT = 3000000
+LINES_LIMIT = 1040000  # a program that is tried may print 1 MiB
 
 
 # Named payloads.
@@ -117,9 +108,6 @@ SOUND = [
     b"ld1:bi0e1:adeee", b"d3:mini1e3:maxi2ee", b"d7:versioni2ee",
 ]
 
-REPLACEMENTS = [bytes([b]) for b in b"019-:deilx\x00\xff"]
-
-
 def named():
     yield from SCOPE
     for length, payload, corrected in FRAMES:
@@ -147,13 +135,6 @@ def single_faults(chance):
 
 
 # Levels.
-
-def nested(kinds, core):
-    """core inside a list for each l of kinds and a dictionary for each d."""
-    for kind in reversed(kinds):
-        core = listing(core) if kind == "l" else dictionary((b"k", core))
-    return core
-
 
 CORES = [
     b"", b"le", b"de", b"l", b"d", b"i1e", b"3:abc", b"0:", b"x", b"e", b"i1",
@@ -550,46 +531,6 @@ def trailing():
 
 # Random payloads.
 
-def random_value(chance, room):
-    """A value that is sound in the loose profile, unless a key is no text;
-    room bounds its size."""
-    kind = chance.below(7)
-    if kind < 2 or room < 2:
-        size = 10 ** chance.below(19)
-        return integer(chance.below(2 * size + 1) - size)
-    if kind < 4:
-        return string(random_text(chance, 5))
-    count = chance.below(min(room, 4) + 1)
-    inner = [random_value(chance, room // 2 + 1) for _ in range(count)]
-    if kind == 4:
-        return listing(*inner)
-    keys = list(dict.fromkeys(random_text(chance, 3) for _ in range(count)))
-    return dictionary(*zip(sorted(keys) if chance.below(4) else keys, inner))
-
-
-def random_text(chance, longest):
-    letters = b"ab" if chance.below(3) else b"\x00\x7f\x80\xffei0:"
-    return bytes(chance.pick(letters)
-                 for _ in range(chance.below(longest + 1)))
-
-
-def mutated(chance, payload):
-    at = chance.below(len(payload))
-    to = at + 1 + chance.below(min(6, len(payload) - at))
-    byte = (chance.pick(REPLACEMENTS) if chance.below(4)
-            else bytes([chance.below(256)]))
-    return chance.pick([
-        payload[:at] + byte + payload[at + 1:],
-        payload[:at] + byte + payload[at:],
-        payload[:at] + payload[at + 1:],
-        payload[:at],
-        payload[:at] + payload[to:],
-        payload[:to] + payload[at:],
-        payload[:at] + payload[at:to][::-1] + payload[to:],
-        payload[:at] + random_value(chance, 3) + payload[to:],
-    ])
-
-
 def random_payloads(chance, count):
     made = 0
     while made < count:
@@ -652,24 +593,65 @@ def all_cases():
         profiles(itertools.chain(*groups)), by_turns(text_key_words())))
 
 
+def pair_cases(counts):
+    """Both payloads of each pair, one after the other. They come out as equal
+    bytes exactly when they mean the same value."""
+    for kind, one, two in value_pairs():
+        outs = [sort(payload, len(payload))[2] for payload in (one, two)]
+        same = same_value(one, two)
+        assert (outs[0] == outs[1]) == same, (one, two)
+        row = counts.setdefault(kind, [0, 0])
+        row[same] += 1
+        yield case(one, len(one))
+        yield case(two, len(two))
+
+
+def hold_sorted(payload, out):
+    """What a sorter that accepts a payload writes, by the rules."""
+    strict = walk(payload, True) == (0, len(payload))
+    assert len(out) == len(payload) and (out == payload) == strict
+    assert walk(out, True) == (0, len(out)) and same_value(payload, out)
+    assert sort(out, len(out)) == (0, 0, out)
+
+
+def line_of(operation, body):
+    if operation == b"o":
+        text = line(body)
+        if text.startswith("0 "):
+            hold_sorted(body[4:], bytes.fromhex(text.split()[3]))
+        return text
+    return "%d %d" % walk(body, operation == b"s")
+
+
 def main(folder):
+    walked, pairs = all_cases(), {}
+    sorting = dict.fromkeys(sort_cases([payload for _, payload in walked]))
+    made = itertools.chain(
+        walked, (each for each in sorting if each not in walked),
+        pair_cases(pairs))
     cases, lines, counts = bytearray(), bytearray(), {}
-    for profile, payload in all_cases():
-        assert len(payload) <= MAX_BODY
-        code, offset = walk(payload, profile == b"s")
-        cases += profile + struct.pack("<I", len(payload)) + payload
-        lines += b"%d %d\n" % (code, offset)
-        row = counts.setdefault(code, {b"l": 0, b"s": 0})
-        row[profile] += 1
+    for operation, body in made:
+        assert len(body) <= MAX_BODY
+        text = line_of(operation, body)
+        cases += operation + struct.pack("<I", len(body)) + body
+        lines += text.encode() + b"\n"
+        row = counts.setdefault(int(text.split()[0]), dict.fromkeys("lso", 0))
+        row[operation.decode()] += 1
     cases += b"l" + struct.pack("<I", 5) + b"i1"
     lines += b"case fault\n"
-    assert len(cases) <= SIZE_LIMIT
+    assert len(cases) <= SIZE_LIMIT and len(lines) <= LINES_LIMIT
     (folder / "stdin").write_bytes(cases)
     (folder / "stdout").write_bytes(lines)
     total = sum(n for row in counts.values() for n in row.values())
     print(total, "cases and a cut one; bytes:", len(cases), len(lines))
     for code, row in sorted(counts.items()):
-        print("code %2d: loose %5d, strict %5d" % (code, row[b"l"], row[b"s"]))
+        print("code %2d: loose %5d, strict %5d, sorted %5d" % (
+            code, row["l"], row["s"], row["o"]))
+    print("pairs: same %d, other %d" % (
+        sum(row[1] for row in pairs.values()),
+        sum(row[0] for row in pairs.values())))
+    for kind, row in sorted(pairs.items()):
+        print("%-16s same %4d, other %4d" % (kind, row[1], row[0]))
 
 
 if __name__ == "__main__":

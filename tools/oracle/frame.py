@@ -1,10 +1,11 @@
 """Oracle for frames: reader, writer, handshake and agreed version.
 
-read(data) gives an Answer: code, offset, consumed, kind (m message,
+read(data, strict) gives an Answer: code, offset, consumed, kind (m message,
 h handshake, - none), key number, tag and value. The value is written as
 `-` nothing, `iN` integer, `tOFFSET,LENGTH` text, `pOFFSET,LENGTH` list or
 unlisted value, `hMIN,MAX` handshake. Value offsets count from the frame's
-first byte, those of faults 5 to 10 from the payload's.
+first byte, those of faults 5 to 11 from the payload's. The strict profile
+differs from the loose one in the payload's walk alone.
 
 write and write_handshake give code, count and frame; agreed gives a version.
 line(operation, body) is the line that the conformance program prints.
@@ -104,7 +105,7 @@ def refused(code, offset):
     return Answer(code, offset, 0, "-", 0, 0, "-")
 
 
-def read(data):
+def read(data, strict=False):
     """The reader's answer to these bytes, in the order of the rules."""
     header = data[:8]
     for place, byte in enumerate(header):
@@ -120,7 +121,7 @@ def read(data):
     payload = data[8:8 + length]
     if len(payload) < length:
         return refused(1, 0)
-    code, offset = walk(payload, False)
+    code, offset = walk(payload, strict)
     if code:
         return refused(code, offset)
     value = decode(payload, 0)
@@ -240,8 +241,8 @@ def written_line(answer):
 
 def line(operation, body):
     """The line for one case, without its newline."""
-    if operation == b"r":
-        return " ".join(str(field) for field in read(body))
+    if operation in (b"r", b"R"):
+        return " ".join(map(str, read(body, operation == b"R")))
     if operation == b"w" and len(body) >= 21 and body[4] <= BYTES:
         fields = struct.unpack("<IBqII", body[:21])
         return written_line(write(*fields, body[21:]))
@@ -314,6 +315,27 @@ READINGS = [
     (b"0000000Dl6:failed1:\xffe", "0 0 21 m 6 0 t19,1"),
 ]
 
+# Frames and their lines in the strict profile, by hand.
+STRICT_READINGS = [
+    (b"", "1 0 0 - 0 0 -"),
+    (b"0000001dd7:versiond3:mini1e3:maxi2eee", "11 19 0 - 0 0 -"),
+    (b"0000001dd7:versiond3:maxi2e3:mini1eee", "0 0 37 h 0 0 h1,2"),
+    (b"00000012l5:startli8eei15ee", "0 0 26 m 16 15 p16,5"),
+    (b"00000014d1:ai1e1:bi2e1:ai3ee", "8 13 0 - 0 0 -"),
+    (b"00000014d1:bi1e1:ai2e1:bi3ee", "11 7 0 - 0 0 -"),
+    (b"0000000Ed1:bi1e1:ai2ee", "11 7 0 - 0 0 -"),
+    (b"0000000Ed1:bi1e2:a\xffi2e", "10 7 0 - 0 0 -"),
+    (b"0000000Ad1:bi1e1:a", "11 7 0 - 0 0 -"),
+    (b"00000009d1:bi1e1:", "5 9 0 - 0 0 -"),
+    (b"0000001Cl4:infold4:name1:x2:idi5eeee", "11 18 0 - 0 0 -"),
+    (b"0000001Cl4:infold2:idi5e4:name1:xeee", "0 0 36 m 10 0 p15,20"),
+    # A value that is ignored, unlisted or off its format is walked too.
+    (b"00000014l4:noopd1:b0:1:a0:ee", "11 13 0 - 0 0 -"),
+    (b"00000011l1:xd1:b0:1:a0:ee", "11 10 0 - 0 0 -"),
+    (b"00000014l4:portd1:b0:1:a0:ee", "11 13 0 - 0 0 -"),
+    (b"00000014l4:portd1:a0:1:b0:ee", "22 0 0 m 14 0 -"),
+]
+
 # Each listed key with a right value and, if there is one, a wrong value.
 ROWS = [
     (1, b"l7:automapi1ee", "i1", b"l7:automapi2ee"),
@@ -377,6 +399,8 @@ AGREEMENTS = [
 def self_test():
     for data, expected in TO_TRY + READINGS:
         assert line(b"r", data) == expected, (data, line(b"r", data))
+    for data, expected in STRICT_READINGS:
+        assert line(b"R", data) == expected, (data, line(b"R", data))
     for key, right, value, wrong in ROWS:
         expected = (0, 0, 8 + len(right), "m", key, 0, value)
         assert read(b"%08x%s" % (len(right), right)) == expected, right
@@ -401,7 +425,8 @@ def self_test():
     for operation, body in ((b"w", pex[:-1]), (b"w", kind), (b"s", b""),
                             (b"a", b"12345"), (b"x", b"")):
         assert line(operation, body) == FAULT, (operation, body)
-    print("self-test passed:", len(TO_TRY + READINGS), "frames read,",
+    print("self-test passed:", len(TO_TRY + READINGS + STRICT_READINGS),
+          "frames read,",
           len(WRITINGS), "messages written")
 
 
