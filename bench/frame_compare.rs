@@ -8,8 +8,8 @@ use crate::{frame_reader, frame_writer};
 const RANDOM_FRAMES: usize = 2_000_000;
 const RANDOM_WRITES: usize = 1_000_000;
 
-/// The codes that the reader and the writers can give.
-const READER_CODES: [usize; 14] = [0, 1, 2, 3, 4, 5, 6, 7, 8, 9, 10, 20, 21, 22];
+/// The codes that the readers, loose and strict, and the writers can give.
+const READER_CODES: [usize; 15] = [0, 1, 2, 3, 4, 5, 6, 7, 8, 9, 10, 11, 20, 21, 22];
 const WRITER_CODES: [usize; 6] = [0, 40, 41, 42, 43, 44];
 
 /// Frames with the code, offset and bytes used that the rules give.
@@ -34,6 +34,15 @@ const SAMPLES: &[(&str, u8, usize, usize)] = &[
     ("0000000Fl4:porti65535ee", 0, 0, 23),
 ];
 
+/// The same for the strict reader.
+const STRICT_SAMPLES: &[(&str, u8, usize, usize)] = &[
+    ("0000001dd7:versiond3:mini1e3:maxi2eee", 11, 19, 0),
+    ("0000001dd7:versiond3:maxi2e3:mini1eee", 0, 0, 37),
+    ("00000014d1:ai1e1:bi2e1:ai3ee", 8, 13, 0),
+    ("0000001Cl4:infold4:name1:x2:idi5eeee", 11, 18, 0),
+    ("00000014l4:noopd1:b0:1:a0:ee", 11, 13, 0),
+];
+
 pub fn run() {
     let mut answers = [0_u64; 256];
     let mut random = Random(362_436_069_362_436_069);
@@ -43,12 +52,18 @@ pub fn run() {
         assert_eq!(found, (*code, *offset, *consumed), "sample {text}");
         read(text.as_bytes(), &mut answers);
     }
+    for (text, code, offset, consumed) in STRICT_SAMPLES {
+        let answer = frame_reader::read_strict(text.as_bytes());
+        let found = (answer.code, answer.offset, answer.consumed);
+        assert_eq!(found, (*code, *offset, *consumed), "sample {text}");
+        read(text.as_bytes(), &mut answers);
+    }
     let mut frame = Vec::new();
     for _ in 0..RANDOM_FRAMES {
         random_frames::frame(&mut random, &mut frame);
         read(&frame, &mut answers);
     }
-    println!("{RANDOM_FRAMES} frames read: no difference");
+    println!("{RANDOM_FRAMES} frames read in two profiles: no difference");
     report(&READER_CODES, &answers);
     answers = [0; 256];
     for _ in 0..RANDOM_WRITES {
@@ -66,10 +81,19 @@ fn report(codes: &[usize], answers: &[u64; 256]) {
     }
 }
 
+/// Both profiles of one frame.
 fn read(frame: &[u8], answers: &mut [u64; 256]) {
-    let (found, wanted): (Answer, Answer) = (bogsilver::read(frame), frame_reader::read(frame));
-    assert_eq!(found, wanted, "frame {frame:02x?}");
-    answers[usize::from(found.code)] += 1;
+    let profiles: [(Answer, Answer); 2] = [
+        (bogsilver::read(frame), frame_reader::read(frame)),
+        (
+            bogsilver::read_strict(frame),
+            frame_reader::read_strict(frame),
+        ),
+    ];
+    for (found, wanted) in profiles {
+        assert_eq!(found, wanted, "frame {frame:02x?}");
+        answers[usize::from(found.code)] += 1;
+    }
 }
 
 /// One message through both writers: the answer and the whole buffer.

@@ -21,6 +21,17 @@ fn refused(code: u8, offset: usize) -> Answer {
 
 #[inline(never)]
 pub fn read(bytes: &[u8]) -> Answer {
+    read_in(bytes, false)
+}
+
+/// In the strict profile: the keys of each dictionary rise.
+#[inline(never)]
+pub fn read_strict(bytes: &[u8]) -> Answer {
+    read_in(bytes, true)
+}
+
+#[inline(always)]
+fn read_in(bytes: &[u8], strict: bool) -> Answer {
     let header = &bytes[..bytes.len().min(HEADER_LENGTH)];
     let mut length: u32 = 0;
     for (offset, &byte) in header.iter().enumerate() {
@@ -41,25 +52,26 @@ pub fn read(bytes: &[u8]) -> Answer {
     let Some(payload) = bytes.get(HEADER_LENGTH..HEADER_LENGTH + length as usize) else {
         return refused(1, 0);
     };
-    message(payload).unwrap_or_else(|| judge(payload))
+    message(payload, strict).unwrap_or_else(|| judge(payload, strict))
 }
 
 /// What is no plain message: the faults of the payload first, and then what it is.
 #[cold]
 #[inline(never)]
-fn judge(payload: &[u8]) -> Answer {
-    match walker::walk(payload, false) {
+fn judge(payload: &[u8], strict: bool) -> Answer {
+    match walker::walk(payload, strict) {
         (0, _) => frame_judge::judge(payload),
         (code, offset) => refused(code, offset),
     }
 }
 
 /// A message that is accepted, in one walk; none where something is off, or only unusual.
-fn message(payload: &[u8]) -> Option<Answer> {
+#[inline(always)]
+fn message(payload: &[u8], strict: bool) -> Option<Answer> {
     let (key, from) = scalars::string(after(Class::List, payload)?)?;
     let key = number(key);
     let format = KEYS[key].1;
-    let behind = value(payload, from, format)?;
+    let behind = value(payload, from, format, strict)?;
     let (tag, rest) = match first_class(behind) {
         Class::Integer => tag(behind)?,
         _ => (0, behind),
@@ -96,8 +108,8 @@ fn tag(bytes: &[u8]) -> Option<(u32, &[u8])> {
 
 /// What is after a value; a list is of its format.
 #[inline(always)]
-fn value<'a>(payload: &'a [u8], from: &'a [u8], format: Format) -> Option<&'a [u8]> {
-    let mut walker = Walker::new(payload, false);
+fn value<'a>(payload: &'a [u8], from: &'a [u8], format: Format, strict: bool) -> Option<&'a [u8]> {
+    let mut walker = Walker::new(payload, strict);
     match format {
         Format::IdList => items(from, scalars::id),
         Format::TextList => items(from, |item| scalars::string(item).map(|(_, rest)| rest)),

@@ -2,16 +2,24 @@
 
 use std::hint::black_box;
 
-use crate::bogsilver::{self, Given, LARGEST_FRAME};
+use crate::bogsilver::{self, Answer, Given, LARGEST_FRAME};
 use crate::time::{print_ratio, print_title};
 use crate::{frame_reader, frame_shapes, frame_writer};
 
 type Shape = fn(usize) -> Vec<u8>;
+type Reader = fn(&[u8]) -> Answer;
 
 const READ: [(&str, Shape); 5] = [
     ("info list, keys sorted", frame_shapes::info),
     ("info list, keys unsorted", frame_shapes::info_unsorted),
     ("status list", frame_shapes::status),
+    ("ID list", frame_shapes::start),
+    ("string list", frame_shapes::texts),
+];
+
+/// In the strict profile, which takes sorted keys alone.
+const READ_STRICT: [(&str, Shape); 3] = [
+    ("info list, keys sorted", frame_shapes::info),
     ("ID list", frame_shapes::start),
     ("string list", frame_shapes::texts),
 ];
@@ -26,7 +34,23 @@ pub fn run() {
     print_title("frame read");
     for (name, shape) in READ {
         for kib in [1, 4, 16, 32] {
-            read(name, &shape(kib * 1024));
+            read(
+                name,
+                &shape(kib * 1024),
+                bogsilver::read,
+                frame_reader::read,
+            );
+        }
+    }
+    print_title("frame read, strict");
+    for (name, shape) in READ_STRICT {
+        for kib in [1, 4, 16, 32] {
+            read(
+                name,
+                &shape(kib * 1024),
+                bogsilver::read_strict,
+                frame_reader::read_strict,
+            );
         }
     }
     print_title("value written");
@@ -37,18 +61,18 @@ pub fn run() {
     }
 }
 
-fn read(name: &str, frame: &[u8]) {
-    let answer = bogsilver::read(frame);
+fn read(name: &str, frame: &[u8], proved: Reader, rust: Reader) {
+    let answer = proved(frame);
     assert_eq!((answer.code, answer.consumed), (0, frame.len()), "{name}");
-    assert_eq!(answer, frame_reader::read(frame), "{name}");
+    assert_eq!(answer, rust(frame), "{name}");
     print_ratio(
         name,
         frame.len(),
         || {
-            black_box(bogsilver::read(black_box(frame)));
+            black_box(proved(black_box(frame)));
         },
         || {
-            black_box(frame_reader::read(black_box(frame)));
+            black_box(rust(black_box(frame)));
         },
     );
 }

@@ -1,5 +1,5 @@
-//! Compares the proved payload walker, frame reader and frame writer with ones in ordinary Rust, in their answers and in
-//! their time.
+//! Compares the proved payload walker, frame reader, frame writer and sorter with ones in ordinary Rust, in their answers and
+//! in their time.
 
 mod beside;
 mod beside_shapes;
@@ -22,6 +22,9 @@ mod random_frames;
 mod random_keys;
 mod scalars;
 mod shapes;
+mod sort_compare;
+mod sort_time;
+mod sorter;
 mod time;
 mod walker;
 
@@ -41,14 +44,17 @@ fn main() {
             "compare" => {
                 compare::run();
                 frame_compare::run();
+                sort_compare::run();
             }
             "time" => {
                 time::run();
                 frame_time::run();
+                sort_time::run();
             }
+            "sort" => sort_time::run(),
             "beside" => beside::run(),
             _ => {
-                eprintln!("usage: bench/run.sh [compare] [time] [beside]");
+                eprintln!("usage: bench/run.sh [compare] [time] [sort] [beside]");
                 std::process::exit(2);
             }
         }

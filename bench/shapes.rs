@@ -140,6 +140,19 @@ fn mixed(size: usize) -> Vec<u8> {
     })
 }
 
+/// Sixteen dictionaries in each other, with rising keys after the inner one.
+pub fn nested_rising(size: usize) -> Vec<u8> {
+    (1..=16).fold(b"0:".to_vec(), |inner, level| {
+        let inner = String::from_utf8(inner).expect("ASCII");
+        fill(
+            size * level / 16,
+            &format!("d{}", entry(0, &inner)),
+            "e",
+            |i| entry(i + 1, "0:"),
+        )
+    })
+}
+
 /// Dictionaries in each other, `depth` of them, with falling keys after the inner one.
 fn nested_falling(size: usize, depth: usize) -> Vec<u8> {
     (1..=depth).fold(b"0:".to_vec(), |inner, level| {

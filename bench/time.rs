@@ -27,7 +27,7 @@ const SHAPES: [(&str, Shape); 7] = [
 ];
 
 /// A frame's payload.
-fn payload(frame: Vec<u8>) -> Vec<u8> {
+pub fn payload(frame: Vec<u8>) -> Vec<u8> {
     frame[HEADER_LENGTH..].to_vec()
 }
 

@@ -1,5 +1,5 @@
 /*
- * Bogsilver for C: reads and writes frames of Transmission's IPC protocol, version 2.
+ * Bogsilver for C: reads and writes frames of Transmission's IPC protocol, version 2, and puts payloads in order.
  *
  * Link with libbogsilver.a, which tools/library.sh builds (x86-64 Linux). The functions allocate nothing, keep nothing
  * between calls and end on every input. They are proved to answer as the rules say. The caller sees to this:
@@ -29,7 +29,7 @@ extern "C" {
 #define BOGSILVER_LARGEST_VERSION 2147483647
 #define BOGSILVER_LARGEST_PORT 65535
 
-/* Codes of the reader. */
+/* Codes of the reader; the walker has 5 to 11 of them, the sorter 4 to 10. */
 enum {
     BOGSILVER_ACCEPTED = 0,
     BOGSILVER_INCOMPLETE = 1,      /* the frame is not all there */
@@ -42,13 +42,13 @@ enum {
     BOGSILVER_REPEATED_KEY = 8,    /* a key comes twice in one dictionary */
     BOGSILVER_TRAILING = 9,        /* bytes follow the value */
     BOGSILVER_ILL_FORMED_KEY = 10, /* a dictionary's key is not well-formed UTF-8, or has a zero byte */
-    BOGSILVER_UNSORTED_KEY = 11,   /* of a strict walk alone: a key is not above the one before it */
+    BOGSILVER_UNSORTED_KEY = 11,   /* in the strict profile alone: a key is not above all earlier ones of its dictionary */
     BOGSILVER_NO_MESSAGE = 20,     /* neither a message nor a dictionary */
     BOGSILVER_NO_HANDSHAKE = 21,   /* a dictionary that is no handshake */
     BOGSILVER_OFF_FORMAT = 22      /* a listed key's value is off its format */
 };
 
-/* Codes of the writers; 0 is accepted. */
+/* Codes of the writers; 0 is accepted. The sorter has 44 too. */
 enum {
     BOGSILVER_KEY_NOT_WRITTEN = 40,
     BOGSILVER_VALUE_REFUSED = 41,   /* off the format, or no range of versions */
@@ -116,7 +116,7 @@ struct bogsilver_answer {
     uint8_t kind;    /* 0 for every refusal, code 22 too */
     uint8_t key;     /* also for code 22 */
     uint32_t tag;    /* 0: none; also for code 22 */
-    size_t offset;   /* of the fault: for code 2 in the header, for 5 to 10 from the payload's start */
+    size_t offset;   /* of the fault: for code 2 in the header, for 5 to 11 from the payload's start */
     size_t consumed; /* the frame's bytes where it is accepted */
     struct bogsilver_content value;
 };
@@ -133,6 +133,13 @@ struct bogsilver_write_answer {
     size_t count;
 };
 
+/* The sorter's answer: code 0 and the bytes written, or the refusal's code, 4 to 10 or 44, its offset, and count 0. */
+struct bogsilver_sort_answer {
+    uint8_t code;
+    size_t offset; /* of the fault, for 5 to 10 */
+    size_t count;
+};
+
 /*
  * Reads the frame at the front of the bytes. Bytes after it are left for the next read. An accepted frame is a message or a
  * handshake; a refusal is of no kind, and names a key and a tag for code 22 alone, where the message's value is off its key's
@@ -140,6 +147,12 @@ struct bogsilver_write_answer {
  * BOGSILVER_HEADER_LENGTH and the header's number of bytes further; after 2 and 3 no next frame can be found.
  */
 struct bogsilver_answer bogsilver_read(const uint8_t *bytes, size_t length);
+
+/*
+ * Reads as bogsilver_read, in the strict profile: the keys of each dictionary rise as raw bytes. A key is refused by 10, then
+ * 8, then 11, at its first length digit. Any other frame has the answer of bogsilver_read.
+ */
+struct bogsilver_answer bogsilver_read_strict(const uint8_t *bytes, size_t length);
 
 /*
  * Walks a payload, of any length and with no header: says where its fault is, if it is not one bencoded value. Strict: the
@@ -157,6 +170,14 @@ struct bogsilver_write_answer bogsilver_write(uint32_t key, uint32_t kind, int64
 
 /* Writes a handshake with a range of versions at the front of out. Refused by 41, then 44; out as above. */
 struct bogsilver_write_answer bogsilver_write_handshake(uint32_t min, uint32_t max, uint8_t *out, size_t room);
+
+/*
+ * Writes a payload, one bencoded value with no header, at the front of out, with its dictionaries sorted by the raw bytes of
+ * their keys at every level. It has as many bytes then as before. Two payloads come out as equal bytes exactly when they mean
+ * the same value, dictionaries compared as maps. Refused in this order: 4 over BOGSILVER_LARGEST_PAYLOAD bytes; 5 to 10 as in
+ * a walk that is not strict; 44 where room is below length. out as above.
+ */
+struct bogsilver_sort_answer bogsilver_sort(const uint8_t *bytes, size_t length, uint8_t *out, size_t room);
 
 /* The largest version in both ranges, or 0 if there is none or if either is no range. */
 uint32_t bogsilver_agreed_version(uint32_t min, uint32_t max, uint32_t min2, uint32_t max2);

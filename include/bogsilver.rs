@@ -14,7 +14,7 @@ pub const LARGEST_TORRENT_ID: u32 = 2147483647;
 pub const LARGEST_VERSION: u32 = 2147483647;
 pub const LARGEST_PORT: u16 = 65535;
 
-/// Codes of the reader.
+/// Codes of the reader; the walker has 5 to 11 of them, the sorter 4 to 10.
 pub const ACCEPTED: u8 = 0;
 pub const INCOMPLETE: u8 = 1;
 pub const NO_DIGIT: u8 = 2;
@@ -27,13 +27,13 @@ pub const REPEATED_KEY: u8 = 8;
 pub const TRAILING: u8 = 9;
 /// A key of a dictionary is not well-formed UTF-8, or has a zero byte.
 pub const ILL_FORMED_KEY: u8 = 10;
-/// Of a strict walk alone.
+/// In the strict profile alone: a key is not above all earlier ones of its dictionary.
 pub const UNSORTED_KEY: u8 = 11;
 pub const NO_MESSAGE: u8 = 20;
 pub const NO_HANDSHAKE: u8 = 21;
 pub const OFF_FORMAT: u8 = 22;
 
-/// Codes of the writers; 0 is accepted.
+/// Codes of the writers; 0 is accepted. The sorter has 44 too.
 pub const KEY_NOT_WRITTEN: u8 = 40;
 pub const VALUE_REFUSED: u8 = 41;
 pub const TAG_REFUSED: u8 = 42;
@@ -127,7 +127,7 @@ pub struct Answer {
     pub key: u8,
     /// 0 is none; also for code 22.
     pub tag: u32,
-    /// Of the fault: for code 2 in the header, for 5 to 10 from the payload's start.
+    /// Of the fault: for code 2 in the header, for 5 to 11 from the payload's start.
     pub offset: usize,
     /// The frame's bytes where it is accepted.
     pub consumed: usize,
@@ -150,6 +150,16 @@ pub struct WriteAnswer {
     pub count: usize,
 }
 
+/// The sorter's answer: code 0 and the bytes written, or the refusal's code, 4 to 10 or 44, its offset, and count 0.
+#[repr(C)]
+#[derive(Clone, Copy, Debug, PartialEq, Eq)]
+pub struct SortAnswer {
+    pub code: u8,
+    /// Of the fault, for 5 to 10.
+    pub offset: usize,
+    pub count: usize,
+}
+
 /// A value handed to the writer.
 #[derive(Clone, Copy, Debug)]
 pub enum Given<'a> {
@@ -161,6 +171,7 @@ pub enum Given<'a> {
 // A slice passes as a pointer and then a length.
 extern "C" {
     fn bogsilver_read(bytes: *const u8, length: usize) -> Answer;
+    fn bogsilver_read_strict(bytes: *const u8, length: usize) -> Answer;
     fn bogsilver_walk(bytes: *const u8, length: usize, strict: bool) -> WalkAnswer;
     fn bogsilver_write(
         key: u32,
@@ -173,12 +184,19 @@ extern "C" {
         room: usize,
     ) -> WriteAnswer;
     fn bogsilver_write_handshake(min: u32, max: u32, out: *mut u8, room: usize) -> WriteAnswer;
+    fn bogsilver_sort(bytes: *const u8, length: usize, out: *mut u8, room: usize) -> SortAnswer;
     fn bogsilver_agreed_version(min: u32, max: u32, min2: u32, max2: u32) -> u32;
 }
 
 pub fn read(bytes: &[u8]) -> Answer {
     // SAFETY: the pointer and the length are those of one slice.
     unsafe { bogsilver_read(bytes.as_ptr(), bytes.len()) }
+}
+
+/// Reads in the strict profile: the keys of each dictionary rise.
+pub fn read_strict(bytes: &[u8]) -> Answer {
+    // SAFETY: the pointer and the length are those of one slice.
+    unsafe { bogsilver_read_strict(bytes.as_ptr(), bytes.len()) }
 }
 
 /// The walk of a payload, in the loose or in the strict profile.
@@ -224,6 +242,12 @@ pub fn write_numbers(
 pub fn write_handshake(min: u32, max: u32, out: &mut [u8]) -> WriteAnswer {
     // SAFETY: the pointer and the length are those of one slice.
     unsafe { bogsilver_write_handshake(min, max, out.as_mut_ptr(), out.len()) }
+}
+
+/// Writes a payload with its dictionaries sorted at every level; it has as many bytes then as before.
+pub fn sort(payload: &[u8], out: &mut [u8]) -> SortAnswer {
+    // SAFETY: each pointer and the length after it are those of one slice, and the two slices are apart.
+    unsafe { bogsilver_sort(payload.as_ptr(), payload.len(), out.as_mut_ptr(), out.len()) }
 }
 
 pub fn agreed_version(min: u32, max: u32, min2: u32, max2: u32) -> u32 {

@@ -1,8 +1,8 @@
 /*
- * Answers a stream of stored cases through include/bogsilver.h, a line each: `cases frame` those of frame_cases (`r` read,
- * `w` write, `s` handshake, `a` agreed version), `cases payload` those of payload_cases (`l` and `s`, a walk in the loose and
- * in the strict profile). Before each write the buffer is filled with a pattern, and a byte that should have stayed and did not
- * is said in the line.
+ * Answers a stream of stored cases through include/bogsilver.h, a line each: `cases frame` those of frame_cases (`r` and `R`
+ * read, in the loose and in the strict profile, `w` write, `s` handshake, `a` agreed version), `cases payload` those of
+ * payload_cases (`l` and `s`, a walk in the loose and in the strict profile, `o` sort). Before each write the buffer is filled
+ * with a pattern, and a byte that should have stayed and did not is said in the line.
  */
 #include "bogsilver.h"
 
@@ -33,9 +33,8 @@ static void print_value(const struct bogsilver_content *value)
     }
 }
 
-static void print_reading(size_t length)
+static void print_reading(struct bogsilver_answer a)
 {
-    struct bogsilver_answer a = bogsilver_read(body, length);
     /* a line names the message of a value off its format too */
     int message = a.kind == BOGSILVER_MESSAGE || a.code == BOGSILVER_OFF_FORMAT;
     const char *kind = message ? "m" : a.kind == BOGSILVER_HANDSHAKE ? "h" : "-";
@@ -50,19 +49,25 @@ static void fill(size_t room)
         out[i] = FILL;
 }
 
-static void print_written(struct bogsilver_write_answer w, size_t room)
+/* the bytes at the front of the buffer, and the first one after them that is not as it was */
+static void print_bytes(size_t count, size_t room)
 {
-    printf("%u %zu", w.code, w.count);
-    if (w.count > 0)
+    if (count > 0)
         printf(" ");
-    for (size_t i = 0; i < w.count; i++)
+    for (size_t i = 0; i < count; i++)
         printf("%02x", out[i]);
-    for (size_t i = w.count; i < room; i++)
+    for (size_t i = count; i < room; i++)
         if (out[i] != FILL) {
             printf(" byte %zu changed", i);
             break;
         }
     printf("\n");
+}
+
+static void print_written(struct bogsilver_write_answer w, size_t room)
+{
+    printf("%u %zu", w.code, w.count);
+    print_bytes(w.count, room);
 }
 
 static int print_message(size_t length)
@@ -87,19 +92,40 @@ static int print_handshake(size_t length)
     return 1;
 }
 
-static int answer_payload(int operation, size_t length)
+static int print_sorted(size_t length)
 {
-    if (operation != 'l' && operation != 's')
+    if (length < 4 || number_at(0) > sizeof out)
         return 0;
-    struct bogsilver_walk_answer w = bogsilver_walk(body, length, operation == 's');
+    size_t room = number_at(0);
+    fill(room);
+    struct bogsilver_sort_answer s = bogsilver_sort(body + 4, length - 4, out, room);
+    printf("%u %zu %zu", s.code, s.offset, s.count);
+    print_bytes(s.count, room);
+    return 1;
+}
+
+static int print_walk(size_t length, bool strict)
+{
+    struct bogsilver_walk_answer w = bogsilver_walk(body, length, strict);
     printf("%u %zu\n", w.code, w.offset);
     return 1;
+}
+
+static int answer_payload(int operation, size_t length)
+{
+    switch (operation) {
+    case 'l': return print_walk(length, false);
+    case 's': return print_walk(length, true);
+    case 'o': return print_sorted(length);
+    default: return 0;
+    }
 }
 
 static int answer_frame(int operation, size_t length)
 {
     switch (operation) {
-    case 'r': print_reading(length); return 1;
+    case 'r': print_reading(bogsilver_read(body, length)); return 1;
+    case 'R': print_reading(bogsilver_read_strict(body, length)); return 1;
     case 'w': return print_message(length);
     case 's': return print_handshake(length);
     case 'a':
