@@ -305,6 +305,7 @@ def largest(chance):
     # One byte more: 4, whatever the payload and the room.
     yield case(long_string(most + 1), MAX_ROOM)
     yield case(falling(most + 1), most)
+    yield case(long_string(most) + b"e", most + 1)
     yield case(b"x" * (most + 1), 0)
     # A length that 16 bits would take for 14.
     yield case(long_string(65536 + 14), 65536 + 14)
