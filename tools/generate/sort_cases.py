@@ -92,7 +92,7 @@ def random_keys(chance, count):
 FALLING = b"d1:b0:1:a0:e"
 SHAPES = [
     b"i0e", b"i-1e", b"i9223372036854775807e", b"0:", b"1:\xff", b"3:\x00de",
-    b"le", b"de", b"lee"[:2], b"ldelee", b"d0:dee", b"d0:lee", b"d1:alee",
+    b"le", b"de", b"ldelee", b"d0:dee", b"d0:lee", b"d1:alee",
     b"d1:bde1:alee", b"d1:b0:1:ai0ee", b"d1:ble0:dee", FALLING,
     listing(FALLING), listing(listing(FALLING)), listing(FALLING, FALLING),
     listing(b"de", FALLING, b"le", FALLING, b"de"),
@@ -106,7 +106,8 @@ SHAPES = [
     dictionary((b"c", b"de"), (b"b", b"le"), (b"a", dictionary(
         (b"c", b"de"), (b"b", b"le"), (b"a", FALLING)))),
     # Strings that look like entries or values.
-    listing(string(FALLING)), dictionary((b"b", string(FALLING)), (b"a", b"0:")),
+    listing(string(FALLING)),
+    dictionary((b"b", string(FALLING)), (b"a", b"0:")),
     dictionary((b"1:b0:", b"0:"), (b"1:a0:", b"0:")), string(b"d1:b0:"),
     dictionary((b"e", b"0:"), (b"d", b"1:e"), (b"", b"2:ee")),
     # Long entries before short ones and the other way round.
@@ -150,7 +151,8 @@ def levels():
 BAD = [
     b"", b"x", b"e", b"-", b"i", b"ie", b"i-0e", b"i03e", b"i1", b"i-", b"ixe",
     b"5:ab", b"05:abcde", b"00:", b"1", b"18446744073709551617:a",
-    b"i9223372036854775808e", b"i-9223372036854775809e", b"i" + b"9" * 30 + b"e",
+    b"i9223372036854775808e", b"i-9223372036854775809e",
+    b"i" + b"9" * 30 + b"e",
     b"l", b"d", b"dle", b"di1e0:e", b"d1:ae", b"d1:b0:1:", b"d1:b0:1:a",
     b"d1:a0:1:a0:e", b"d1:b0:1:a0:1:b0:e", b"d1:b0:1:a0:1:a0:e", b"d0:0:0:0:e",
     b"d1:\xff0:e", b"d1:b0:1:\x000:e", b"d2:b\xc3i1e1:a0:e", b"d1:\x80",
@@ -182,8 +184,8 @@ def refused():
 
 def key_faults():
     """8 and 10 at every place of dictionaries whose keys fall or are mixed."""
-    for keys in ([b"e", b"d", b"c", b"b", b"a"], [b"c", b"a", b"e", b"b", b"d"],
-                 [b"a", b"b", b"c", b"d", b"e"]):
+    for letters in (b"edcba", b"caebd", b"abcde"):
+        keys = [bytes([letter]) for letter in letters]
         for one, two in itertools.combinations(range(5), 2):
             again = [*keys]
             again[two] = keys[one]
@@ -228,7 +230,8 @@ def damaged(chance, count):
             yield whole[:size]
             yield whole[:size] + whole[size + 1:]
     for _ in range(count):
-        whole = chance.pick(CUT) if chance.below(3) else random_value(chance, 9)
+        whole = (chance.pick(CUT) if chance.below(3)
+                 else random_value(chance, 9))
         yield mutated(chance, whole)
         yield mutated(chance, mutated(chance, whole) or b"e")
 
@@ -241,19 +244,15 @@ def pair(number):
 
 
 def filled(size, entries):
-    """A dictionary of so many bytes: of the entries as many as fit, and a
-    least key with a string that fills it."""
+    """A dictionary of so many bytes: as many of the entries as fit, and then
+    the empty key with a string that fills it."""
     made, left = [], size - 2
     for key, value in entries:
         if left < len(string(key) + value) + 20:
             break
         made.append((key, value))
         left -= len(string(key) + value)
-    filler = left - len(b"0:") - 3
-    whole = dictionary(*made, (b"", string(b"f" * filler)))
-    assert len(whole) in (size, size - 1)
-    if len(whole) < size:
-        whole = dictionary(*made, (b"", string(b"f" * (filler + 1))))
+    whole = dictionary(*made, (b"", string(b"f" * (left - len("0:12:")))))
     assert len(whole) == size
     return whole
 

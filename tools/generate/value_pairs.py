@@ -7,7 +7,7 @@ is, and whether the two mean the same is for oracle.canonical.same_value.
 
 from generate.chance import Chance
 from generate.encoded import integer, listing, string
-from oracle.payload import walk
+from oracle.payload import is_text, walk
 
 PAIRS = 2000
 LONGEST = 40  # bytes of a random payload, so that all fit in one program's run
@@ -119,10 +119,9 @@ def other_key(chance, tree):
     part = of_kind(chance, tree, dict, 1)
     if part:
         old = chance.pick(list(part))
-        new = chance.pick((old + b"\x01", old[:-1], old[:-1] + b"q", b"q" + old))
-        try:
-            new.decode()
-        except UnicodeDecodeError:
+        new = chance.pick((old + b"\x01", old[:-1], old[:-1] + b"q",
+                           b"q" + old))
+        if not is_text(new):
             new = old + b"q"
         value = part.pop(old)
         part.setdefault(new, value)
