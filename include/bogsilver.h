@@ -136,7 +136,7 @@ struct bogsilver_write_answer {
 /* The sorter's answer: code 0 and the bytes written, or the refusal's code, 4 to 10 or 44, its offset, and count 0. */
 struct bogsilver_sort_answer {
     uint8_t code;
-    size_t offset; /* of the fault, for 5 to 10 */
+    size_t offset; /* of the fault: for 5 to 10, from the payload's start */
     size_t count;
 };
 
@@ -150,7 +150,7 @@ struct bogsilver_answer bogsilver_read(const uint8_t *bytes, size_t length);
 
 /*
  * Reads as bogsilver_read, in the strict profile: the keys of each dictionary rise as raw bytes. A key is refused by 10, then
- * 8, then 11, at its first length digit. Any other frame has the answer of bogsilver_read.
+ * 8, then 11, at its first length digit. A frame that is not refused by 11 has the answer of bogsilver_read.
  */
 struct bogsilver_answer bogsilver_read_strict(const uint8_t *bytes, size_t length);
 

@@ -155,7 +155,7 @@ pub struct WriteAnswer {
 #[derive(Clone, Copy, Debug, PartialEq, Eq)]
 pub struct SortAnswer {
     pub code: u8,
-    /// Of the fault, for 5 to 10.
+    /// Of the fault: for 5 to 10, from the payload's start.
     pub offset: usize,
     pub count: usize,
 }
