@@ -21,7 +21,7 @@ from generate.encoded import (
     string)
 from generate.key_texts import (
     CHOSEN, KEY_TEXTS, MIDDLES, damaged, random_key, run)
-from generate.sort_cases import case, sort_cases
+from generate.sort_cases import case, largest_cases, sort_cases
 from generate.value_pairs import value_pairs
 from oracle.canonical import line, same_value, sort
 from oracle.payload import walk
@@ -628,7 +628,7 @@ def main(folder):
     sorting = dict.fromkeys(sort_cases([payload for _, payload in walked]))
     made = itertools.chain(
         walked, (each for each in sorting if each not in walked),
-        pair_cases(pairs))
+        pair_cases(pairs), largest_cases())
     cases, lines, counts = bytearray(), bytearray(), {}
     for operation, body in made:
         assert len(body) <= MAX_BODY

@@ -1,8 +1,8 @@
 """Payloads for the sorter, with rooms: part of the cases of payload_cases.
 
-sort_cases(walked) yields cases: `o`, whose body is a room (4 bytes) and a
-payload, and `s`, a strict walk of what a sorter writes. walked are payloads
-of other cases, some of which are sorted too.
+sort_cases(walked) and largest_cases() yield cases: `o`, whose body is a room
+(4 bytes) and a payload, and `s`, a strict walk of what a sorter writes.
+walked are payloads of other cases, some of which are sorted too.
 """
 
 import itertools
@@ -267,9 +267,13 @@ def falling(size):
     return whole
 
 
+# A sorter may take entries times bytes, so only one payload has thousands.
+FILL = string(b"d1:b0:1:a0:e" * 2)
+
+
 def shuffled(chance, size):
-    numbers = chance.shuffled(range(3000))
-    return filled(size, ((b"key" + pair(n), integer(n)) for n in numbers))
+    numbers = chance.shuffled(range(2000))
+    return filled(size, ((b"key" + pair(n), FILL) for n in numbers))
 
 
 def nested_falling(size):
@@ -279,7 +283,7 @@ def nested_falling(size):
     for level in range(1, 17):
         numbers = range(8000, 0, -1)
         inner = filled(size * level // 16, itertools.chain(
-            [(b"~~~", inner)], ((pair(n), b"0:") for n in numbers)))
+            [(b"~~~", inner)], ((pair(n), FILL) for n in numbers)))
     return inner
 
 
@@ -293,21 +297,23 @@ def long_string(size):
 
 def largest(chance):
     most = LARGEST_PAYLOAD
-    for payload in (falling(most), shuffled(chance, most),
-                    nested_falling(most), long_string(most)):
-        yield case(payload, most)
     whole = long_string(most)
+    yield case(whole, most)
     yield case(whole, most - 1)
-    # A fault in the last bytes, with less room than is needed.
-    yield case(falling(most)[:-7] + b"2:" + pair(1) + b"0:e", most - 1)
+    # A fault in the last byte, with less room than is needed.
     yield case(whole[:-1] + b"x", most - 1)
     # One byte more: 4, whatever the payload and the room.
     yield case(long_string(most + 1), MAX_ROOM)
     yield case(falling(most + 1), most)
-    yield case(long_string(most) + b"e", most + 1)
+    yield case(whole + b"e", most + 1)
     yield case(b"x" * (most + 1), 0)
     # A length that 16 bits would take for 14.
     yield case(long_string(65536 + 14), 65536 + 14)
+    yield case(nested_falling(most), most)
+    yield case(shuffled(chance, most), most)
+    # The last key again, with less room than is needed.
+    yield case(falling(most)[:-7] + b"2:" + pair(1) + b"0:e", most - 1)
+    yield case(falling(most), most)
 
 
 def plain(payloads, chance):
@@ -331,9 +337,16 @@ def sort_cases(walked):
     free = itertools.chain(key_faults(), damaged(chance, 300), some(walked))
     made = dict.fromkeys(itertools.chain(
         (case(payload, len(payload)) for payload in exact), rooms(),
-        refused(), plain(free, chance), largest(chance)))
+        refused(), plain(free, chance)))
     yield from made
     yield from again(made)
+
+
+def largest_cases():
+    """The costliest last."""
+    made = list(largest(Chance(0x589965CC75374CC3)))
+    yield from again(made)
+    yield from made
 
 
 def again(made):
