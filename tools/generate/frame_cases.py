@@ -823,7 +823,7 @@ def strict_messages():
         for depth in range(1, 17):
             for kinds in ("l" * depth, "d" * depth, ("ld" * depth)[:depth]):
                 yield frame(nested(kinds, inner))
-    # Bytes of a key that fall inside strings, and lists, are in no order.
+    # Lists, and what a string holds, need be in no order.
     yield message(b"get-status-all", b"l1:b1:ae")
     yield message(b"start", b"li2ei1ee")
     yield message(b"failed", string(dictionary(*FALLING)))

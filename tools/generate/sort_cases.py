@@ -268,7 +268,7 @@ def falling(size):
 
 
 # A sorter may take entries times bytes, so only one payload has thousands.
-FILL = string(b"d1:b0:1:a0:e" * 2)
+FILL = string(FALLING * 2)
 
 
 def shuffled(chance, size):
