@@ -8,23 +8,24 @@ use mathlib.Core.List.{List}
 use native.Mathlib.Omega.{arith}
 use borrow.Author.Tests.{ltb-false, le-ltb}
 use lib.Dec.{ltb}
+use Rattle.bencode.specs.declared.profile.Profile.{Profile}
 use Rattle.ipc.specs.declared.header.Header.{Header}
 use Rattle.ipc.specs.declared.header.Sized.{Sized}
 use Rattle.ipc.specs.Answer.{refused, answerOf}
 use Rattle.ipc.specs.Header.{largestPayload, protocolPayload, readHeader, headerCode, headerOffset, sized, lengthCode}
-use Rattle.ipc.specs.Reader.{bySize, byHeader, frameReading, readFrame}
+use Rattle.ipc.specs.Reader.{bySize, byHeader, readFrame}
 use Rattle.ipc.specs.Demands.{HeaderAnswered, HeadersAnswered}
 
-by-header : (s : List ℕ) (h : Header) → (headerCode h ≡ 0 → ⊥) → answerOf (byHeader s h) ≡ refused (headerCode h) (headerOffset h)
+by-header : (s : List ℕ) (h : Header) → (headerCode h ≡ 0 → ⊥) → answerOf (byHeader Profile.Loose s h) ≡ refused (headerCode h) (headerOffset h)
 by-header s (Header.Length n) k = absurd (k refl)
 by-header s (Header.NoDigit at) k = refl
 by-header s Header.Short k = refl
 
-by-length : (s : List ℕ) (n : ℕ) → (lengthCode n ≡ 0 → ⊥) → answerOf (bySize s (sized n)) ≡ refused (lengthCode n) 0
+by-length : (s : List ℕ) (n : ℕ) → (lengthCode n ≡ 0 → ⊥) → answerOf (bySize Profile.Loose s (sized n)) ≡ refused (lengthCode n) 0
 unfolding sized
 by-length s n k = go (ltb protocolPayload n) (ltb largestPayload n) k
   where
-    go : (t u : Bool) → (_≡_ {A = ℕ} (cond t 3 (cond u 4 0)) 0 → ⊥) → answerOf (bySize s (cond t Sized.OverProtocol (cond u Sized.OverLimit (Sized.Length (record { 0 = n }))))) ≡ refused (cond t 3 (cond u 4 0)) 0
+    go : (t u : Bool) → (_≡_ {A = ℕ} (cond t 3 (cond u 4 0)) 0 → ⊥) → answerOf (bySize Profile.Loose s (cond t Sized.OverProtocol (cond u Sized.OverLimit (Sized.Length (record { 0 = n }))))) ≡ refused (cond t 3 (cond u 4 0)) 0
     go true u k = refl
     go false true k = refl
     go false false k = absurd (k refl)
@@ -51,7 +52,7 @@ within-limit n = (λ k. go (ltb protocolPayload n) (ltb largestPayload n) refl k
     go false false e k = ltb-false largestPayload n e
 
 one-header : (s : List ℕ) → HeaderAnswered s
-unfolding readFrame frameReading
+unfolding readFrame
 one-header s =
     record {
       fault = by-header s (readHeader s);

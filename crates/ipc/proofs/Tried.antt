@@ -24,14 +24,14 @@ use Rattle.ipc.specs.Format.{idEnd, torrentEnd, itemEnd, itemsEnd, listP
 use Rattle.ipc.specs.Message.{tailAt, messageReading}
 use Rattle.ipc.specs.Versions.{rangeOf}
 use Rattle.ipc.specs.Handshake.{rangeAt, dictionaryVersions, handshakeReading}
-use Rattle.ipc.specs.Reader.{payloadReading, lengthReading, frameReading, readFrame}
+use Rattle.ipc.specs.Reader.{payloadReading, lengthReading, readFrame}
 use Rattle.ipc.specs.HandshakeWriter.{handshakePayload}
 use Rattle.ipc.specs.Hex.{hexDigit, hexIn, hexHeader}
 use Rattle.ipc.specs.Writer.{encodeGiven, encodeTag, payloadOf, frameOf}
 use Rattle.ipc.specs.Tries.{tries, FramesTried, FramesWritten}
 
 pub frames-tried : FramesTried
-unfolding tries frameReading skipFrom itemAt readFrame lengthReading payloadReading ascii hexValue headerIn readHeader sized tagOf torrentIdOf listed numberFrom keyNumber classOf entryAt fieldAt fieldOf idEnd torrentEnd itemEnd itemsEnd listPart formatted tailAt messageReading rangeOf rangeAt dictionaryVersions handshakeReading payloadAt valueAt scalarAt integerAt integerFrom numeralAt digits stringAt listFrom dictionaryFrom repeat keyFault textFrom isUsed isAbove same less
+unfolding tries skipFrom itemAt readFrame lengthReading payloadReading ascii hexValue headerIn readHeader sized tagOf torrentIdOf listed numberFrom keyNumber classOf entryAt fieldAt fieldOf idEnd torrentEnd itemEnd itemsEnd listPart formatted tailAt messageReading rangeOf rangeAt dictionaryVersions handshakeReading payloadAt valueAt scalarAt integerAt integerFrom numeralAt digits stringAt listFrom dictionaryFrom repeat keyFault textFrom isUsed isAbove same less
 frames-tried = refl
 
 pub frames-written : FramesWritten

@@ -21,7 +21,7 @@ use Rattle.ipc.specs.declared.writer.Written.{Written}
 use Rattle.ipc.specs.Answer.{Answer, Content, nothing, integer, text, part, versions, message, refused, accepted, acceptedHandshake}
 use Rattle.ipc.specs.declared.header.Header.{Header}
 use Rattle.ipc.specs.Header.{headerLength, largestPayload, protocolPayload, hexValue, readHeader, headerCode, headerOffset, lengthCode}
-use Rattle.ipc.specs.Reader.{readFrame}
+use Rattle.ipc.specs.Reader.{readFrameBy, readFrame}
 use Rattle.ipc.specs.Hex.{upperHeader}
 use Rattle.ipc.specs.Keys.{classOf, isWritten}
 use Rattle.ipc.specs.Meaning.{isIdValue, every, meaning}
@@ -38,9 +38,9 @@ unfoldable pub hexFrom : ℕ → List ℕ → ℕ
 hexFrom v [] = v
 hexFrom v (c ∷ cs) = hexFrom (16 * v + hexValue c) cs
 
--- a frame with an answer: 8 hex digits for a length of at most 32,768, the encoding of a well-formed value of that length
--- that means the answer, and any bytes
-pub record Framed (s : List ℕ) (a : Answer) : Type 0 where
+-- a frame with an answer in a profile: 8 hex digits for a length of at most 32,768, the encoding of a well-formed value of
+-- that length that means the answer, and any bytes
+pub record FramedBy (profile : Profile) (s : List ℕ) (a : Answer) : Type 0 where
   pub header : List ℕ
   pub payload : Value
   pub rest : List ℕ
@@ -49,8 +49,12 @@ pub record Framed (s : List ℕ) (a : Answer) : Type 0 where
   pub hex : HexDigits header
   pub number : hexFrom 0 header ≡ length (encode payload)
   pub small : length (encode payload) ≤ largestPayload
-  pub formed : WellFormed Profile.Loose largestDepth payload
+  pub formed : WellFormed profile largestDepth payload
   pub means : meaning (headerLength + length (encode payload)) payload ≡ a
+
+-- in the loose profile, the default
+abbrev pub Framed : List ℕ → Answer → Type 0
+Framed s a = FramedBy Profile.Loose s a
 
 -- ---- reading
 -- a frame of the grammar has the answer that it means, be it accepted or 20, 21 or 22
@@ -60,12 +64,23 @@ AnswersMeaningFor read = (s : List ℕ) (a : Answer) → Framed s a → read s �
 abbrev pub AnswersMeaning : Type 0
 AnswersMeaning = AnswersMeaningFor readFrame
 
+-- the same in every profile
+abbrev pub AnswersMeaningBy : Type 0
+AnswersMeaningBy = (profile : Profile) (s : List ℕ) (a : Answer) → FramedBy profile s a → readFrameBy profile s ≡ a
+
 -- demand 2: what is accepted, and what is refused by 20 to 22, is what the grammar says: with the same values, and nothing else
 abbrev pub AcceptsExactlyFor : (List ℕ → Answer) → Type 0
 AcceptsExactlyFor read = (s : List ℕ) (a : Answer) → (a .code ≡ 0) ⊎ (20 ≤ a .code) → (read s ≡ a) ↔ Framed s a
 
 abbrev pub AcceptsExactly : Type 0
 AcceptsExactly = AcceptsExactlyFor readFrame
+
+-- the same of a reader in every profile
+abbrev pub AcceptsExactlyByFor : (Profile → List ℕ → Answer) → Type 0
+AcceptsExactlyByFor read = (profile : Profile) (s : List ℕ) (a : Answer) → (a .code ≡ 0) ⊎ (20 ≤ a .code) → (read profile s ≡ a) ↔ FramedBy profile s a
+
+abbrev pub AcceptsExactlyBy : Type 0
+AcceptsExactlyBy = AcceptsExactlyByFor readFrameBy
 
 -- bytes that start with 8 hex digits for a number, and the bytes after them
 pub record Headed (s : List ℕ) (n : ℕ) (after : List ℕ) : Type 0 where
@@ -75,23 +90,27 @@ pub record Headed (s : List ℕ) (n : ℕ) (after : List ℕ) : Type 0 where
   pub hex : HexDigits header
   pub number : hexFrom 0 header ≡ n
 
--- the rows of document 01's table 'What the reader says', and 10 of document 02, request 03: when bytes have an answer
-pub data AnswerRow (s : List ℕ) : Answer → Type 0 where
+-- the rows of document 01's table 'What the reader says', with 10 and 11 of document 02: when bytes have an answer in a profile
+pub data AnswerRowBy (profile : Profile) (s : List ℕ) : Answer → Type 0 where
   -- 0, and 20 to 22: a frame of the grammar
-  framed : {a : Answer} → Framed s a → AnswerRow s a
+  framed : {a : Answer} → FramedBy profile s a → AnswerRowBy profile s a
   -- 1: no header fault, but the header or the payload is not all there
-  short-header : HexDigits s → length s < headerLength → AnswerRow s (refused 1 0)
-  short-payload : (n : ℕ) (after : List ℕ) → Headed s n after → n ≤ largestPayload → length after < n → AnswerRow s (refused 1 0)
+  short-header : HexDigits s → length s < headerLength → AnswerRowBy profile s (refused 1 0)
+  short-payload : (n : ℕ) (after : List ℕ) → Headed s n after → n ≤ largestPayload → length after < n → AnswerRowBy profile s (refused 1 0)
   -- 2: a header byte is not a hex digit; the first such one
   no-digit : (before after : List ℕ) (c : ℕ) → s ≡ before ++ (c ∷ after) → HexDigits before → length before < headerLength → 16 ≤ hexValue c
-      → AnswerRow s (refused 2 (length before))
+      → AnswerRowBy profile s (refused 2 (length before))
   -- 3: over the protocol's limit
-  over-protocol : (n : ℕ) (after : List ℕ) → Headed s n after → protocolPayload < n → AnswerRow s (refused 3 0)
+  over-protocol : (n : ℕ) (after : List ℕ) → Headed s n after → protocolPayload < n → AnswerRowBy profile s (refused 3 0)
   -- 4: over the library's
-  over-limit : (n : ℕ) (after : List ℕ) → Headed s n after → largestPayload < n → n ≤ protocolPayload → AnswerRow s (refused 4 0)
-  -- 5 to 10: a fault of the payload
+  over-limit : (n : ℕ) (after : List ℕ) → Headed s n after → largestPayload < n → n ≤ protocolPayload → AnswerRowBy profile s (refused 4 0)
+  -- 5 to 10, and 11 in the strict profile: a fault of the payload
   payload-fault : (payload after : List ℕ) (f : Fault) → Headed s (length payload) (payload ++ after) → length payload ≤ largestPayload
-      → payloadAt Profile.Loose payload ≡ Walk.Fault f → AnswerRow s (refused (f .code) (f .offset))
+      → payloadAt profile payload ≡ Walk.Fault f → AnswerRowBy profile s (refused (f .code) (f .offset))
+
+-- in the loose profile, the default
+abbrev pub AnswerRow : List ℕ → Answer → Type 0
+AnswerRow s a = AnswerRowBy Profile.Loose s a
 
 -- demand 1: each number is given when its row holds and never otherwise
 abbrev pub AnswersByRowFor : (List ℕ → Answer) → Type 0
@@ -99,6 +118,10 @@ AnswersByRowFor read = (s : List ℕ) (a : Answer) → (read s ≡ a) ↔ Answer
 
 abbrev pub AnswersByRow : Type 0
 AnswersByRow = AnswersByRowFor readFrame
+
+-- the same in every profile
+abbrev pub AnswersByRowBy : Type 0
+AnswersByRowBy = (profile : Profile) (s : List ℕ) (a : Answer) → (readFrameBy profile s ≡ a) ↔ AnswerRowBy profile s a
 
 -- a fault of the header, or of the length that it says, is the reader's answer, and where it has none it says a length
 pub record HeaderAnswered (s : List ℕ) : Type 0 where

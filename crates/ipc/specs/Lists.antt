@@ -34,9 +34,9 @@ isId (Number.Fault f) = false
 abbrev pub closedAt : List ℕ → ℕ → ListCheck
 closedAt p at = cond (eqb (byteAt p at) letterE) (ListCheck.Fits (at + 1)) (ListCheck.Off at)
 
--- the list whose items start at an offset: it ends and every item is in its format; it is the list that goes on at another
--- offset; or it has a fault
-abbrev pub Listing : Items → List ℕ → ℕ → ListCheck → Type 0
-Listing items p from (ListCheck.Fits end) = (listAt Profile.Loose sublistLevels p from ≡ Walk.End end) × (itemsEnd items p from ≡ OptionalEnd.End end)
-Listing items p from (ListCheck.Off at) = listAt Profile.Loose sublistLevels p at ≡ listAt Profile.Loose sublistLevels p from
-Listing items p from (ListCheck.Fault f) = listAt Profile.Loose sublistLevels p from ≡ Walk.Fault f
+-- the list whose items start at an offset, in a profile: it ends and every item is in its format; it is the list that goes on at
+-- another offset; or it has a fault
+abbrev pub Listing : Profile → Items → List ℕ → ℕ → ListCheck → Type 0
+Listing profile items p from (ListCheck.Fits end) = (listAt profile sublistLevels p from ≡ Walk.End end) × (itemsEnd items p from ≡ OptionalEnd.End end)
+Listing profile items p from (ListCheck.Off at) = listAt profile sublistLevels p at ≡ listAt profile sublistLevels p from
+Listing profile items p from (ListCheck.Fault f) = listAt profile sublistLevels p from ≡ Walk.Fault f

@@ -1,4 +1,4 @@
--- Pinned by `AnswersByRow`. The reader: what a frame at the front of bytes comes to, in document 01's order of refusals.
+-- Pinned by `AnswersByRowBy`. The reader: what a frame at the front of bytes comes to, in document 01's order of refusals.
 -- Assumes nothing.
 use Prim.Native.Nat.{ℕ, _+_}
 use mathlib.Core.Bool.{cond}
@@ -26,28 +26,35 @@ abbrev pub walked : List ℕ → Walk → Reading
 walked p (Walk.End end) = byKind p
 walked p (Walk.Fault f) = Reading.Payload f
 
--- what is read of a payload
-unfoldable pub payloadReading : List ℕ → Reading
-payloadReading p = walked p (payloadAt Profile.Loose p)
+-- what is read of a payload in a profile
+unfoldable pub payloadReading : Profile → List ℕ → Reading
+payloadReading profile p = walked p (payloadAt profile p)
 
 -- what is read of a frame whose payload has a length
-unfoldable pub lengthReading : List ℕ → ℕ → Reading
-lengthReading s n = cond (leb (headerLength + n) (length s)) (payloadReading (slice s headerLength (headerLength + n))) Reading.Incomplete
+unfoldable pub lengthReading : Profile → List ℕ → ℕ → Reading
+lengthReading profile s n = cond (leb (headerLength + n) (length s)) (payloadReading profile (slice s headerLength (headerLength + n))) Reading.Incomplete
 
-abbrev pub bySize : List ℕ → Sized → Reading
-bySize s (Sized.Length n) = lengthReading s (n .0)
-bySize s Sized.OverLimit = Reading.OverLimit
-bySize s Sized.OverProtocol = Reading.OverProtocol
+abbrev pub bySize : Profile → List ℕ → Sized → Reading
+bySize profile s (Sized.Length n) = lengthReading profile s (n .0)
+bySize profile s Sized.OverLimit = Reading.OverLimit
+bySize profile s Sized.OverProtocol = Reading.OverProtocol
 
-abbrev pub byHeader : List ℕ → Header → Reading
-byHeader s (Header.Length n) = bySize s (sized n)
-byHeader s (Header.NoDigit at) = Reading.NoDigit at
-byHeader s Header.Short = Reading.Incomplete
+abbrev pub byHeader : Profile → List ℕ → Header → Reading
+byHeader profile s (Header.Length n) = bySize profile s (sized n)
+byHeader profile s (Header.NoDigit at) = Reading.NoDigit at
+byHeader profile s Header.Short = Reading.Incomplete
 
--- what is read of the frame at the front of bytes
-unfoldable pub frameReading : List ℕ → Reading
-frameReading s = byHeader s (readHeader s)
+-- what is read of the frame at the front of bytes in a profile
+abbrev pub readingBy : Profile → List ℕ → Reading
+readingBy profile s = byHeader profile s (readHeader s)
 
 -- the answer to it, as document 01 has it
+abbrev pub readFrameBy : Profile → List ℕ → Answer
+readFrameBy profile s = answerOf (readingBy profile s)
+
+-- both in the loose profile, which is the default
+unfoldable pub frameReading : List ℕ → Reading
+frameReading s = readingBy Profile.Loose s
+
 unfoldable pub readFrame : List ℕ → Answer
-readFrame s = answerOf (frameReading s)
+readFrame s = readFrameBy Profile.Loose s

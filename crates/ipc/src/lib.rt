@@ -31,6 +31,7 @@ pub use numbers::Numbers;
 pub use numbers::ValueNumbers;
 pub use numbers::numbers_of;
 pub use reader::read;
+pub use reader::read_strict;
 pub use reading::Message;
 pub use reading::Reading;
 pub use reading::Value;

@@ -1,5 +1,6 @@
 // Lists of a message, walked and held to their format in one pass.
 ghost use mathlib.Core.Path.{_≡_};
+ghost use Rattle.bencode.specs.declared.profile.Profile.{Profile};
 ghost use Rattle.bencode.specs.Integers.{integerAt};
 ghost use Rattle.ipc.specs.declared.format.Items.{Items};
 ghost use Rattle.ipc.specs.Lists.{closedAt, Listing, isId};
@@ -35,14 +36,14 @@ fn closed_at(p: &[u8], at: usize) -> ListCheck
 
 // The list of strings whose items start at an offset.
 pub fn text_list(p: &[u8], from: usize) -> ListCheck
-    ensures { λ r. ⌜ Listing Items.Texts (now (p .entry)) from r ⌝ }
+    ensures { λ r. ⌜ ((profile : Profile) → Listing profile Items.Texts (now (p .entry)) from r) ⌝ }
 {
     closed_at(p, texts(p, from))
 }
 
 // The list of torrent IDs whose items start at an offset.
 pub fn id_list(p: &[u8], from: usize) -> ListCheck
-    ensures { λ r. ⌜ Listing Items.Ids (now (p .entry)) from r ⌝ }
+    ensures { λ r. ⌜ ((profile : Profile) → Listing profile Items.Ids (now (p .entry)) from r) ⌝ }
 {
     closed_at(p, positives(p, from, TorrentId::LARGEST as u64))
 }
@@ -61,8 +62,8 @@ fn is_id(p: &[u8], at: usize) -> bool
 }
 
 // The list of torrents whose items start at an offset: dictionaries whose `id` is a torrent ID.
-pub fn torrent_list(p: &[u8], from: usize) -> ListCheck
-    ensures { λ r. ⌜ Listing Items.Torrents (now (p .entry)) from r ⌝ }
+pub fn torrent_list(p: &[u8], from: usize, profile: Profile) -> ListCheck
+    ensures { λ r. ⌜ Listing profile Items.Torrents (now (p .entry)) from r ⌝ }
 {
     let mut at = from;
     loop {
@@ -73,7 +74,7 @@ pub fn torrent_list(p: &[u8], from: usize) -> ListCheck
         if b != b'd' {
             return ListCheck::Off(at);
         }
-        match record(p, at + 1, b"id", Profile::Loose) {
+        match record(p, at + 1, b"id", profile) {
             Noted::Found { end, value } => {
                 if !is_id(p, value) {
                     return ListCheck::Off(end);

@@ -94,22 +94,22 @@ pub enum ValueCheck {
 }
 
 // The value at an offset, walked only.
-fn walked(p: &[u8], at: usize) -> ValueCheck
-    ensures { λ r. ⌜ r ≡ walkedOnly (valueAt Profile.Loose listLevels (now (p .entry)) at) ⌝ }
+fn walked(p: &[u8], at: usize, profile: Profile) -> ValueCheck
+    ensures { λ r. ⌜ r ≡ walkedOnly (valueAt profile listLevels (now (p .entry)) at) ⌝ }
 {
-    match list_value(p, at, Profile::Loose) {
+    match list_value(p, at, profile) {
         Walk::End(end) => ValueCheck::Other(end),
         Walk::Fault(f) => ValueCheck::Fault(f),
     }
 }
 
 // The value that is a list: where an item is off its format, the rest is walked only.
-fn listed(p: &[u8], checked: ListCheck) -> ValueCheck
-    ensures { λ r. ⌜ r ≡ listValue (now (p .entry)) checked ⌝ }
+fn listed(p: &[u8], checked: ListCheck, profile: Profile) -> ValueCheck
+    ensures { λ r. ⌜ r ≡ listValue profile (now (p .entry)) checked ⌝ }
 {
     match checked {
         ListCheck::Fits(end) => ValueCheck::Fits(end),
-        ListCheck::Off(at) => match sublist_rest(p, at, Profile::Loose) {
+        ListCheck::Off(at) => match sublist_rest(p, at, profile) {
             Walk::End(end) => ValueCheck::Other(end),
             Walk::Fault(f) => ValueCheck::Fault(f),
         },
@@ -118,17 +118,17 @@ fn listed(p: &[u8], checked: ListCheck) -> ValueCheck
 }
 
 // The value at an offset. A list in its format is held to it while it is walked.
-fn value_of(p: &[u8], class: Class, at: usize) -> ValueCheck
-    ensures { λ r. ⌜ Valuing class (now (p .entry)) at r ⌝ }
+fn value_of(p: &[u8], class: Class, at: usize, profile: Profile) -> ValueCheck
+    ensures { λ r. ⌜ Valuing profile class (now (p .entry)) at r ⌝ }
 {
     if byte_at(p, at) != b'l' {
-        return walked(p, at);
+        return walked(p, at, profile);
     }
     match class {
-        Class::TextList => listed(p, text_list(p, at + 1)),
-        Class::IdList => listed(p, id_list(p, at + 1)),
-        Class::TorrentList => listed(p, torrent_list(p, at + 1)),
-        _ => walked(p, at),
+        Class::TextList => listed(p, text_list(p, at + 1), profile),
+        Class::IdList => listed(p, id_list(p, at + 1), profile),
+        Class::TorrentList => listed(p, torrent_list(p, at + 1, profile), profile),
+        _ => walked(p, at, profile),
     }
 }
 
@@ -152,11 +152,11 @@ fn ended(p: &[u8], key: u8, tag: OptionalTag, at: usize, end: usize, fits: bool)
 }
 
 // The answer for the key with a number and the value from an offset up to another, which has been walked: the rest is walked.
-fn rest(p: &[u8], key: u8, at: usize, end: usize, fits: bool) -> Reading
-    requires { ⌜ (valueAt Profile.Loose listLevels (now p) at ≡ Walk.End end) × (length (now p) ≤ largestPayload) × (fits ≡ true → InFormat (classOf key) (now p) at end) ⌝ }
-    ensures { λ r. ⌜ r ≡ keyedReading (now (p .entry)) key at ⌝ }
+fn rest(p: &[u8], key: u8, at: usize, end: usize, fits: bool, profile: Profile) -> Reading
+    requires { ⌜ (valueAt profile listLevels (now p) at ≡ Walk.End end) × (length (now p) ≤ largestPayload) × (fits ≡ true → InFormat (classOf key) (now p) at end) ⌝ }
+    ensures { λ r. ⌜ r ≡ keyedReading profile (now (p .entry)) key at ⌝ }
 {
-    match list_rest(p, end, Profile::Loose) {
+    match list_rest(p, end, profile) {
         Walk::Fault(f) => Reading::Payload(f),
         Walk::End(_) => match tag_at(p, end) {
             Tail::Tag(tag) => ended(p, key, tag, at, end, fits),
@@ -166,35 +166,35 @@ fn rest(p: &[u8], key: u8, at: usize, end: usize, fits: bool) -> Reading
 }
 
 // The answer for a list that has no key or no value.
-fn unkeyed(p: &[u8]) -> Reading
+fn unkeyed(p: &[u8], profile: Profile) -> Reading
     requires { ⌜ (byteAt (now p) 0 ≡ letterL) × (messageReading (now p) ≡ Reading.NoMessage) ⌝ }
-    ensures { λ r. ⌜ r ≡ payloadReading (now (p .entry)) ⌝ }
+    ensures { λ r. ⌜ r ≡ payloadReading profile (now (p .entry)) ⌝ }
 {
-    match payload(p, Profile::Loose) {
+    match payload(p, profile) {
         Walk::End(_) => Reading::NoMessage,
         Walk::Fault(f) => Reading::Payload(f),
     }
 }
 
 // The answer for a payload that opens as a list.
-pub fn message(p: &[u8]) -> Reading
+pub fn message(p: &[u8], profile: Profile) -> Reading
     requires { ⌜ (byteAt (now p) 0 ≡ letterL) × (length (now p) ≤ largestPayload) ⌝ }
-    ensures { λ r. ⌜ r ≡ payloadReading (now (p .entry)) ⌝ }
+    ensures { λ r. ⌜ r ≡ payloadReading profile (now (p .entry)) ⌝ }
 {
     match string(p, 1) {
         Text::Bytes { start, end } => {
             if byte_at(p, end) == b'e' {
-                return unkeyed(p);
+                return unkeyed(p, profile);
             }
             let found = key_of(&p[start..end]);
             let key = found.number;
             let class = found.class;
-            match value_of(p, class, end) {
-                ValueCheck::Fits(e) => rest(p, key, end, e, true),
-                ValueCheck::Other(e) => rest(p, key, end, e, false),
+            match value_of(p, class, end, profile) {
+                ValueCheck::Fits(e) => rest(p, key, end, e, true, profile),
+                ValueCheck::Other(e) => rest(p, key, end, e, false, profile),
                 ValueCheck::Fault(f) => Reading::Payload(f),
             }
         }
-        Text::Fault(_) => unkeyed(p),
+        Text::Fault(_) => unkeyed(p, profile),
     }
 }

@@ -29,62 +29,62 @@ use Rattle.ipc.proofs.frames.MessageLaws.{message-keyed}
 use Rattle.ipc.proofs.frames.ReaderLaws.{payload-fault, payload-list}
 
 -- ---- the value
-module _ (class : Class) (p : List ℕ) (at : ℕ) where
-  walked-valuing : (w : Walk) → valueAt Profile.Loose listLevels p at ≡ w → Valuing class p at (walkedOnly w)
+module _ (profile : Profile) (class : Class) (p : List ℕ) (at : ℕ) where
+  walked-valuing : (w : Walk) → valueAt profile listLevels p at ≡ w → Valuing profile class p at (walkedOnly w)
   walked-valuing (Walk.End end) e = e
   walked-valuing (Walk.Fault f) e = e
 
-  pub only-walked : (r : ValueCheck) → r ≡ walkedOnly (valueAt Profile.Loose listLevels p at) → Valuing class p at r
-  only-walked r e = subst (Valuing class p at) (sym e) (walked-valuing (valueAt Profile.Loose listLevels p at) refl)
+  pub only-walked : (r : ValueCheck) → r ≡ walkedOnly (valueAt profile listLevels p at) → Valuing profile class p at r
+  only-walked r e = subst (Valuing profile class p at) (sym e) (walked-valuing (valueAt profile listLevels p at) refl)
 
   -- a list that is held to its format
   module _ (items : Items) (by : (end : ℕ) → formatted class p at end ≡ listPart items p at end) (b : byteAt p at ≡ 108) where
-    list-here : (w : Walk) → listAt Profile.Loose sublistLevels p (at + 1) ≡ w → valueAt Profile.Loose listLevels p at ≡ w
-    list-here w e = sym (value-list Profile.Loose listLevels sublistLevels p at refl b) ∙ e
+    list-here : (w : Walk) → listAt profile sublistLevels p (at + 1) ≡ w → valueAt profile listLevels p at ≡ w
+    list-here w e = sym (value-list profile listLevels sublistLevels p at refl b) ∙ e
 
-    list-valuing : (l : ListCheck) → Listing items p (at + 1) l → Valuing class p at (listValue p l)
+    list-valuing : (l : ListCheck) → Listing profile items p (at + 1) l → Valuing profile class p at (listValue profile p l)
     list-valuing (ListCheck.Fits end) h = (list-here (Walk.End end) (h .0), by end ∙ sym (list-good items p at end b end (h .1)))
-    list-valuing (ListCheck.Off to) h = walked-valuing (listAt Profile.Loose sublistLevels p to) (list-here (listAt Profile.Loose sublistLevels p to) (sym h))
+    list-valuing (ListCheck.Off to) h = walked-valuing (listAt profile sublistLevels p to) (list-here (listAt profile sublistLevels p to) (sym h))
     list-valuing (ListCheck.Fault f) h = list-here (Walk.Fault f) h
 
-    held : (l : ListCheck) → Listing items p (at + 1) l → (r : ValueCheck) → r ≡ listValue p l → Valuing class p at r
-    held l h r e = subst (Valuing class p at) (sym e) (list-valuing l h)
+    held : (l : ListCheck) → Listing profile items p (at + 1) l → (r : ValueCheck) → r ≡ listValue profile p l → Valuing profile class p at r
+    held l h r e = subst (Valuing profile class p at) (sym e) (list-valuing l h)
 
-module _ (class : Class) (p : List ℕ) (at : ℕ) (b : byteAt p at ≡ 108) (l : ListCheck) (r : ValueCheck) (e : r ≡ listValue p l) where
-  pub held-texts : class ≡ Class.TextList → Listing Items.Texts p (at + 1) l → Valuing class p at r
+module _ (profile : Profile) (class : Class) (p : List ℕ) (at : ℕ) (b : byteAt p at ≡ 108) (l : ListCheck) (r : ValueCheck) (e : r ≡ listValue profile p l) where
+  pub held-texts : class ≡ Class.TextList → Listing profile Items.Texts p (at + 1) l → Valuing profile class p at r
   unfolding formatted
-  held-texts k h = held class p at Items.Texts (λ end. rw k refl) b l h r e
+  held-texts k h = held profile class p at Items.Texts (λ end. rw k refl) b l h r e
 
-  pub held-ids : class ≡ Class.IdList → Listing Items.Ids p (at + 1) l → Valuing class p at r
+  pub held-ids : class ≡ Class.IdList → Listing profile Items.Ids p (at + 1) l → Valuing profile class p at r
   unfolding formatted
-  held-ids k h = held class p at Items.Ids (λ end. rw k refl) b l h r e
+  held-ids k h = held profile class p at Items.Ids (λ end. rw k refl) b l h r e
 
-  pub held-torrents : class ≡ Class.TorrentList → Listing Items.Torrents p (at + 1) l → Valuing class p at r
+  pub held-torrents : class ≡ Class.TorrentList → Listing profile Items.Torrents p (at + 1) l → Valuing profile class p at r
   unfolding formatted
-  held-torrents k h = held class p at Items.Torrents (λ end. rw k refl) b l h r e
+  held-torrents k h = held profile class p at Items.Torrents (λ end. rw k refl) b l h r e
 
 -- ---- the ways through
-module _ (p : List ℕ) (k at : ℕ) where
-  pub keyed-fault : (f : Fault) → valueAt Profile.Loose listLevels p at ≡ Walk.Fault f → Reading.Payload f ≡ keyedReading p k at
+module _ (profile : Profile) (p : List ℕ) (k at : ℕ) where
+  pub keyed-fault : (f : Fault) → valueAt profile listLevels p at ≡ Walk.Fault f → Reading.Payload f ≡ keyedReading profile p k at
   unfolding keyedReading
   keyed-fault f e = rw e refl
 
-  pub keyed-value : (end : ℕ) → valueAt Profile.Loose listLevels p at ≡ Walk.End end → (w : Walk) → whole p (listAt Profile.Loose listLevels p end) ≡ w → restReading p k at end w ≡ keyedReading p k at
+  pub keyed-value : (end : ℕ) → valueAt profile listLevels p at ≡ Walk.End end → (w : Walk) → whole p (listAt profile listLevels p end) ≡ w → restReading p k at end w ≡ keyedReading profile p k at
   unfolding keyedReading
   keyed-value end e w r = rw (e, r) refl
 
 -- ---- and it comes to the same
-module _ (p : List ℕ) (l : byteAt p 0 ≡ 108) (start at : ℕ) (text : stringAt p 1 ≡ Text.Bytes start at) (b : byteAt p at ≡ 101 → ⊥) where
-  pub keyed-listed : keyedReading p (keyNumber (slice p start at)) at ≡ payloadReading p
+module _ (profile : Profile) (p : List ℕ) (l : byteAt p 0 ≡ 108) (start at : ℕ) (text : stringAt p 1 ≡ Text.Bytes start at) (b : byteAt p at ≡ 101 → ⊥) where
+  pub keyed-listed : keyedReading profile p (keyNumber (slice p start at)) at ≡ payloadReading profile p
   unfolding keyedReading
-  keyed-listed = go (valueAt Profile.Loose listLevels p at) refl
+  keyed-listed = go (valueAt profile listLevels p at) refl
     where
-      rest : (end : ℕ) → valueAt Profile.Loose listLevels p at ≡ Walk.End end → (w : Walk) → whole p (listAt Profile.Loose listLevels p end) ≡ w → restReading p (keyNumber (slice p start at)) at end w ≡ payloadReading p
+      rest : (end : ℕ) → valueAt profile listLevels p at ≡ Walk.End end → (w : Walk) → whole p (listAt profile listLevels p end) ≡ w → restReading p (keyNumber (slice p start at)) at end w ≡ payloadReading profile p
       rest end e (Walk.End last) r =
-          message-keyed p start at text end (sym (value-item Profile.Loose listLevels p at end b e))
-          ∙ payload-list p last (second-walked Profile.Loose p l start at text b end e ∙ r) (λ d. omega (arith, l, d)) l
-      rest end e (Walk.Fault f) r = payload-fault p f (second-walked Profile.Loose p l start at text b end e ∙ r)
+          message-keyed p start at text end (sym (value-item profile listLevels p at end b e))
+          ∙ payload-list profile p last (second-walked profile p l start at text b end e ∙ r) (λ d. omega (arith, l, d)) l
+      rest end e (Walk.Fault f) r = payload-fault profile p f (second-walked profile p l start at text b end e ∙ r)
 
-      go : (w : Walk) → valueAt Profile.Loose listLevels p at ≡ w → valueReading p (keyNumber (slice p start at)) at w ≡ payloadReading p
-      go (Walk.End end) e = rest end e (whole p (listAt Profile.Loose listLevels p end)) refl
-      go (Walk.Fault f) e = payload-fault p f (second-fault Profile.Loose p l start at text b f e)
+      go : (w : Walk) → valueAt profile listLevels p at ≡ w → valueReading profile p (keyNumber (slice p start at)) at w ≡ payloadReading profile p
+      go (Walk.End end) e = rest end e (whole p (listAt profile listLevels p end)) refl
+      go (Walk.Fault f) e = payload-fault profile p f (second-fault profile p l start at text b f e)

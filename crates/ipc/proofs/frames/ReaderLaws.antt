@@ -24,34 +24,34 @@ use Rattle.ipc.specs.declared.reading.Reading.{Reading}
 use Rattle.ipc.specs.Header.{largestPayload, protocolPayload, readHeader, sized}
 use Rattle.ipc.specs.Message.{messageReading}
 use Rattle.ipc.specs.Handshake.{handshakeReading}
-use Rattle.ipc.specs.Reader.{payloadReading, lengthReading, bySize, frameReading}
+use Rattle.ipc.specs.Reader.{payloadReading, lengthReading, bySize, readingBy}
 use Rattle.ipc.proofs.header.Sized.{the-type}
 
-module _ (p : List ℕ) where
-  pub payload-fault : (f : Fault) → payloadAt Profile.Loose p ≡ Walk.Fault f → Reading.Payload f ≡ payloadReading p
+module _ (profile : Profile) (p : List ℕ) where
+  pub payload-fault : (f : Fault) → payloadAt profile p ≡ Walk.Fault f → Reading.Payload f ≡ payloadReading profile p
   unfolding payloadReading
   payload-fault f e = rw e refl
 
-  module _ (end : ℕ) (e : payloadAt Profile.Loose p ≡ Walk.End end) where
-    pub payload-dictionary : byteAt p 0 ≡ 100 → handshakeReading p ≡ payloadReading p
+  module _ (end : ℕ) (e : payloadAt profile p ≡ Walk.End end) where
+    pub payload-dictionary : byteAt p 0 ≡ 100 → handshakeReading p ≡ payloadReading profile p
     unfolding payloadReading
     payload-dictionary b = rw (e, eq-eqb (byteAt p 0) 100 b) refl
 
     module _ (b : byteAt p 0 ≡ 100 → ⊥) where
-      pub payload-list : byteAt p 0 ≡ 108 → messageReading p ≡ payloadReading p
+      pub payload-list : byteAt p 0 ≡ 108 → messageReading p ≡ payloadReading profile p
       unfolding payloadReading
       payload-list l = rw (e, ne-eqb (byteAt p 0) 100 b, eq-eqb (byteAt p 0) 108 l) refl
 
-      pub payload-scalar : (byteAt p 0 ≡ 108 → ⊥) → Reading.NoMessage ≡ payloadReading p
+      pub payload-scalar : (byteAt p 0 ≡ 108 → ⊥) → Reading.NoMessage ≡ payloadReading profile p
       unfolding payloadReading
       payload-scalar l = rw (e, ne-eqb (byteAt p 0) 100 b, ne-eqb (byteAt p 0) 108 l) refl
 
-module _ (s : List ℕ) (n : ℕ) where
-  pub length-short : length s < 8 + n → Reading.Incomplete ≡ lengthReading s n
+module _ (profile : Profile) (s : List ℕ) (n : ℕ) where
+  pub length-short : length s < 8 + n → Reading.Incomplete ≡ lengthReading profile s n
   unfolding lengthReading
   length-short h = rw (lt-leb (8 + n) (length s) h) refl
 
-  pub length-there : 8 + n ≤ length s → payloadReading (slice s 8 (8 + n)) ≡ lengthReading s n
+  pub length-there : 8 + n ≤ length s → payloadReading profile (slice s 8 (8 + n)) ≡ lengthReading profile s n
   unfolding lengthReading
   length-there h = rw (le-leb (8 + n) (length s) h) refl
 
@@ -97,15 +97,12 @@ sized-length n l e = omega (arith, sized-small n l e, sized-same n l e)
 pub sized-over : (n : ℕ) (z : Sized) → z ≡ sized n → OneOf (1 ∷ 2 ∷ []) (tagOf the-type z) → largestPayload < n
 sized-over n z e h = ⊎-elim (λ (l : largestPayload < n). l) (λ (l : n ≤ largestPayload). absurd (miss (1 ∷ 2 ∷ []) 0 tt (subst (λ (y : Sized). OneOf (1 ∷ 2 ∷ []) (tagOf the-type y)) (e ∙ sized-fits n l) h))) (lt-or-le largestPayload n)
 
-module _ (s : List ℕ) where
-  pub frame-no-digit : (at : ℕ) → readHeader s ≡ Header.NoDigit at → Reading.NoDigit at ≡ frameReading s
-  unfolding frameReading
+module _ (profile : Profile) (s : List ℕ) where
+  pub frame-no-digit : (at : ℕ) → readHeader s ≡ Header.NoDigit at → Reading.NoDigit at ≡ readingBy profile s
   frame-no-digit at e = rw e refl
 
-  pub frame-short : readHeader s ≡ Header.Short → Reading.Incomplete ≡ frameReading s
-  unfolding frameReading
+  pub frame-short : readHeader s ≡ Header.Short → Reading.Incomplete ≡ readingBy profile s
   frame-short e = rw e refl
 
-  pub frame-sized : (n : ℕ) (z : Sized) → readHeader s ≡ Header.Length n → sized n ≡ z → bySize s z ≡ frameReading s
-  unfolding frameReading
+  pub frame-sized : (n : ℕ) (z : Sized) → readHeader s ≡ Header.Length n → sized n ≡ z → bySize profile s z ≡ readingBy profile s
   frame-sized n z e h = rw (e, h) refl

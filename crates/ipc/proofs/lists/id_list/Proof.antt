@@ -19,10 +19,10 @@ closed-at-requires : tie.Need-closed-at-requires
 closed-at-requires c κs = search needs
 
 returns : tie.Need-returns
-returns c =
+returns c profile =
     let a = c .before .before .before .args in
     let l = c .before .positives in
-    subst (λ (r : ListCheck). Listing Items.Ids (a .p .now) (a .from) r) (sym (c .closed-at .ensures)) (id-listing (a .p .now) (a .from) (l .result) (l .ensures .0))
+    subst (λ (r : ListCheck). Listing profile Items.Ids (a .p .now) (a .from) r) (sym (c .closed-at .ensures)) (id-listing profile (a .p .now) (a .from) (l .result) (l .ensures .0))
 
 pub id-list-spec : {M : Type 1} → statement M
 id-list-spec = tie.close (tie.spec cast-positives positives-requires closed-at-requires returns)

@@ -16,10 +16,10 @@ closed-at-requires : tie.Need-closed-at-requires
 closed-at-requires c κs = search needs
 
 returns : tie.Need-returns
-returns c =
+returns c profile =
     let a = c .before .before .before .args in
     let l = c .before .texts in
-    subst (λ (r : ListCheck). Listing Items.Texts (a .p .now) (a .from) r) (sym (c .closed-at .ensures)) (text-listing (a .p .now) (a .from) (l .result) (l .ensures .0))
+    subst (λ (r : ListCheck). Listing profile Items.Texts (a .p .now) (a .from) r) (sym (c .closed-at .ensures)) (text-listing profile (a .p .now) (a .from) (l .result) (l .ensures .0))
 
 pub text-list-spec : {M : Type 1} → statement M
 text-list-spec = tie.close (tie.spec texts-requires closed-at-requires returns)

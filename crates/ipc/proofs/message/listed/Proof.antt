@@ -25,16 +25,16 @@ enum-known-checked-3 : tie.Need-enum-known-checked-3
 enum-known-checked-3 c = search needs
 
 returns : tie.Need-returns
-returns c = sym (ap (listValue (c .before .before .before .before .args .p .now)) (c .before .checked .given .1))
+returns c = sym (ap (listValue (c .before .before .before .before .args .profile) (c .before .before .before .before .args .p .now)) (c .before .checked .given .1))
 
 returns-2 : tie.Need-returns-2
-returns-2 c = ap walkedOnly (sym (c .before .end .given .1) ∙ c .before .before .before .sublist-rest .ensures) ∙ sym (ap (listValue (c .before .before .before .before .before .before .before .before .args .p .now)) (c .before .before .before .before .before .checked2 .given .1))
+returns-2 c = ap walkedOnly (sym (c .before .end .given .1) ∙ c .before .before .before .sublist-rest .ensures) ∙ sym (ap (listValue (c .before .before .before .before .before .before .before .before .args .profile) (c .before .before .before .before .before .before .before .before .args .p .now)) (c .before .before .before .before .before .checked2 .given .1))
 
 returns-3 : tie.Need-returns-3
-returns-3 c = ap walkedOnly (sym (c .before .f .given .1) ∙ c .before .before .before .sublist-rest .ensures) ∙ sym (ap (listValue (c .before .before .before .before .before .before .before .before .args .p .now)) (c .before .before .before .before .before .checked2 .given .1))
+returns-3 c = ap walkedOnly (sym (c .before .f .given .1) ∙ c .before .before .before .sublist-rest .ensures) ∙ sym (ap (listValue (c .before .before .before .before .before .before .before .before .args .profile) (c .before .before .before .before .before .before .before .before .args .p .now)) (c .before .before .before .before .before .checked2 .given .1))
 
 returns-4 : tie.Need-returns-4
-returns-4 c = sym (ap (listValue (c .before .before .before .before .args .p .now)) (c .before .checked3 .given .1))
+returns-4 c = sym (ap (listValue (c .before .before .before .before .args .profile) (c .before .before .before .before .args .p .now)) (c .before .checked3 .given .1))
 
 pub listed-spec : {M : Type 1} → statement M
 listed-spec =

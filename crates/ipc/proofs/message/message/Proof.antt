@@ -6,7 +6,6 @@ use mathlib.Core.Bool.{false}
 use native.Mathlib.Omega.{arith}
 use Rattle.octets.proofs.sequences.Order.{clash}
 use Rattle.bencode.specs.declared.fault.Walk.{Walk}
-use Rattle.bencode.specs.declared.profile.Profile.{Profile}
 use Rattle.bencode.specs.declared.strings.Text.{Text}
 use Rattle.bencode.specs.Depth.{listLevels}
 use Rattle.bencode.specs.Strings.{stringAt}
@@ -79,9 +78,10 @@ enum-known-e c = search needs
 rest-requires : tie.Need-rest-requires
 rest-requires c κs =
     let p = c .before .before .before .before .before .before .before .before .before .before .before .before .before .args .p .now in
+    let profile = c .before .before .before .before .before .before .before .before .before .before .before .before .before .args .profile in
     let at = c .before .before .before .before .before .before .before .before .before .start .given .0 .1 .0 in
     let e = c .before .e .given .0 .0 in
-    let v : Valuing (c .before .before .before .before .key-of .result .class) p at (ValueCheck.Fits e) = subst (λ (r : ValueCheck). Valuing (c .before .before .before .before .key-of .result .class) p at r) (c .before .e .given .1) (c .before .before .before .value-of .ensures) in
+    let v : Valuing profile (c .before .before .before .before .key-of .result .class) p at (ValueCheck.Fits e) = subst (λ (r : ValueCheck). Valuing profile (c .before .before .before .before .key-of .result .class) p at r) (c .before .e .given .1) (c .before .before .before .value-of .ensures) in
     (v .0, c .before .before .before .before .before .before .before .before .before .before .before .before .before .pre .1, λ t. ap (λ (k : Class). formatted k p at e) (ap classOf (c .before .before .before .before .key-of .ensures .0) ∙ sym (c .before .before .before .before .key-of .ensures .1)) ∙ v .1)
 
 enum-known-e-2 : tie.Need-enum-known-e-2
@@ -90,8 +90,9 @@ enum-known-e-2 c = search needs
 rest-requires-2 : tie.Need-rest-requires-2
 rest-requires-2 c κs =
     let p = c .before .before .before .before .before .before .before .before .before .before .before .before .before .args .p .now in
+    let profile = c .before .before .before .before .before .before .before .before .before .before .before .before .before .args .profile in
     let at = c .before .before .before .before .before .before .before .before .before .start .given .0 .1 .0 in
-    let v : valueAt Profile.Loose listLevels p at ≡ Walk.End (c .before .e2 .given .0 .0) = subst (λ (r : ValueCheck). Valuing (c .before .before .before .before .key-of .result .class) p at r) (c .before .e2 .given .1) (c .before .before .before .value-of .ensures) in
+    let v : valueAt profile listLevels p at ≡ Walk.End (c .before .e2 .given .0 .0) = subst (λ (r : ValueCheck). Valuing profile (c .before .before .before .before .key-of .result .class) p at r) (c .before .e2 .given .1) (c .before .before .before .value-of .ensures) in
     (v, c .before .before .before .before .before .before .before .before .before .before .before .before .before .pre .1, λ t. clash false t refl)
 
 enum-known-f : tie.Need-enum-known-f
@@ -106,25 +107,28 @@ unkeyed-requires-2 c κs = (c .before .before .before .before .pre .0, sym (mess
 returns-2 : tie.Need-returns-2
 returns-2 c =
     let p = c .before .before .before .before .before .before .before .before .before .before .before .before .before .before .args .p .now in
+    let profile = c .before .before .before .before .before .before .before .before .before .before .before .before .before .before .args .profile in
     let k = c .before .before .before .before .before .before .before .before .before .before .start .given in
     let text : stringAt p 1 ≡ Text.Bytes (k .0 .0) (k .0 .1 .0) = sym (c .before .before .before .before .before .before .before .before .before .before .before .before .string .ensures) ∙ k .1 in
-    c .rest .ensures ∙ ap (λ (n : ℕ). keyedReading p n (k .0 .1 .0)) (c .before .before .before .before .before .key-of .ensures .0) ∙ keyed-listed p (c .before .before .before .before .before .before .before .before .before .before .before .before .before .before .pre .0) (k .0 .0) (k .0 .1 .0) text (λ e. c .before .before .before .before .before .before .before .if1 .left (c .before .before .before .before .before .before .before .before .byte-at .ensures ∙ e))
+    c .rest .ensures ∙ ap (λ (n : ℕ). keyedReading profile p n (k .0 .1 .0)) (c .before .before .before .before .before .key-of .ensures .0) ∙ keyed-listed profile p (c .before .before .before .before .before .before .before .before .before .before .before .before .before .before .pre .0) (k .0 .0) (k .0 .1 .0) text (λ e. c .before .before .before .before .before .before .before .if1 .left (c .before .before .before .before .before .before .before .before .byte-at .ensures ∙ e))
 
 returns-3 : tie.Need-returns-3
 returns-3 c =
     let p = c .before .before .before .before .before .before .before .before .before .before .before .before .before .before .args .p .now in
+    let profile = c .before .before .before .before .before .before .before .before .before .before .before .before .before .before .args .profile in
     let k = c .before .before .before .before .before .before .before .before .before .before .start .given in
     let text : stringAt p 1 ≡ Text.Bytes (k .0 .0) (k .0 .1 .0) = sym (c .before .before .before .before .before .before .before .before .before .before .before .before .string .ensures) ∙ k .1 in
-    c .rest2 .ensures ∙ ap (λ (n : ℕ). keyedReading p n (k .0 .1 .0)) (c .before .before .before .before .before .key-of .ensures .0) ∙ keyed-listed p (c .before .before .before .before .before .before .before .before .before .before .before .before .before .before .pre .0) (k .0 .0) (k .0 .1 .0) text (λ e. c .before .before .before .before .before .before .before .if1 .left (c .before .before .before .before .before .before .before .before .byte-at .ensures ∙ e))
+    c .rest2 .ensures ∙ ap (λ (n : ℕ). keyedReading profile p n (k .0 .1 .0)) (c .before .before .before .before .before .key-of .ensures .0) ∙ keyed-listed profile p (c .before .before .before .before .before .before .before .before .before .before .before .before .before .before .pre .0) (k .0 .0) (k .0 .1 .0) text (λ e. c .before .before .before .before .before .before .before .if1 .left (c .before .before .before .before .before .before .before .before .byte-at .ensures ∙ e))
 
 returns-4 : tie.Need-returns-4
 returns-4 c =
     let p = c .before .before .before .before .before .before .before .before .before .before .before .before .before .args .p .now in
+    let profile = c .before .before .before .before .before .before .before .before .before .before .before .before .before .args .profile in
     let k = c .before .before .before .before .before .before .before .before .before .start .given in
     let f = c .before .f .given .0 .0 in
     let text : stringAt p 1 ≡ Text.Bytes (k .0 .0) (k .0 .1 .0) = sym (c .before .before .before .before .before .before .before .before .before .before .before .string .ensures) ∙ k .1 in
-    let v : valueAt Profile.Loose listLevels p (k .0 .1 .0) ≡ Walk.Fault f = subst (λ (r : ValueCheck). Valuing (c .before .before .before .before .key-of .result .class) p (k .0 .1 .0) r) (c .before .f .given .1) (c .before .before .before .value-of .ensures) in
-    keyed-fault p (c .before .before .before .before .key-of .result .number) (k .0 .1 .0) f v ∙ ap (λ (n : ℕ). keyedReading p n (k .0 .1 .0)) (c .before .before .before .before .key-of .ensures .0) ∙ keyed-listed p (c .before .before .before .before .before .before .before .before .before .before .before .before .before .pre .0) (k .0 .0) (k .0 .1 .0) text (λ e. c .before .before .before .before .before .before .if1 .left (c .before .before .before .before .before .before .before .byte-at .ensures ∙ e))
+    let v : valueAt profile listLevels p (k .0 .1 .0) ≡ Walk.Fault f = subst (λ (r : ValueCheck). Valuing profile (c .before .before .before .before .key-of .result .class) p (k .0 .1 .0) r) (c .before .f .given .1) (c .before .before .before .value-of .ensures) in
+    keyed-fault profile p (c .before .before .before .before .key-of .result .number) (k .0 .1 .0) f v ∙ ap (λ (n : ℕ). keyedReading profile p n (k .0 .1 .0)) (c .before .before .before .before .key-of .ensures .0) ∙ keyed-listed profile p (c .before .before .before .before .before .before .before .before .before .before .before .before .before .pre .0) (k .0 .0) (k .0 .1 .0) text (λ e. c .before .before .before .before .before .before .if1 .left (c .before .before .before .before .before .before .before .byte-at .ensures ∙ e))
 
 returns-5 : tie.Need-returns-5
 returns-5 c = c .unkeyed2 .ensures

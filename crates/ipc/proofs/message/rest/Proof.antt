@@ -3,7 +3,6 @@
 use mathlib.Core.Path.{sym, ap, _∙_}
 use native.Mathlib.Omega.{arith}
 use Rattle.bencode.specs.declared.fault.Walk.{Walk}
-use Rattle.bencode.specs.declared.profile.Profile.{Profile}
 use Rattle.bencode.specs.Depth.{listLevels}
 use Rattle.bencode.proofs.walking.WalkLaws.{value-ends}
 use Rattle.ipc.specs.declared.message.Tail.{Tail}
@@ -31,7 +30,7 @@ enum-known-tag c = search needs
 ended-requires : tie.Need-ended-requires
 ended-requires c κs =
     let a = c .before .before .before .before .before .before .before .before .args in
-    let v = value-ends Profile.Loose listLevels (a .p .now) (a .at) (a .end) (c .before .before .before .before .before .before .before .before .pre .0) in
+    let v = value-ends (a .profile) listLevels (a .p .now) (a .at) (a .end) (c .before .before .before .before .before .before .before .before .pre .0) in
     (omega arith, omega arith, c .before .before .before .before .before .before .before .before .pre .1, c .before .before .before .before .before .before .before .before .pre .2)
 
 enum-told-2 : tie.Need-enum-told-2
@@ -40,7 +39,7 @@ enum-told-2 c = search needs
 returns : tie.Need-returns
 returns c =
     let a = c .before .before .before .before .before .args in
-    keyed-value (a .p .now) (a .key) (a .at) (a .end) (c .before .before .before .before .before .pre .0) (Walk.Fault (c .before .f .given .0 .0)) (sym (c .before .before .before .list-rest .ensures) ∙ c .before .f .given .1)
+    keyed-value (a .profile) (a .p .now) (a .key) (a .at) (a .end) (c .before .before .before .before .before .pre .0) (Walk.Fault (c .before .f .given .0 .0)) (sym (c .before .before .before .list-rest .ensures) ∙ c .before .f .given .1)
 
 returns-2 : tie.Need-returns-2
 returns-2 c =
@@ -48,14 +47,14 @@ returns-2 c =
     let p = a .p .now in
     c .ended .ensures
     ∙ ap (λ (t : Tail). fromTag p (a .key) (a .at) (a .end) t) (sym (c .before .before .tag .given .1) ∙ c .before .before .before .before .tag-at .ensures)
-    ∙ keyed-value p (a .key) (a .at) (a .end) (c .before .before .before .before .before .before .before .before .before .pre .0) (Walk.End (c .before .before .before .before .before .enum-told .given .0 .0)) (sym (c .before .before .before .before .before .before .before .list-rest .ensures) ∙ c .before .before .before .before .before .enum-told .given .1)
+    ∙ keyed-value (a .profile) p (a .key) (a .at) (a .end) (c .before .before .before .before .before .before .before .before .before .pre .0) (Walk.End (c .before .before .before .before .before .enum-told .given .0 .0)) (sym (c .before .before .before .before .before .before .before .list-rest .ensures) ∙ c .before .before .before .before .before .enum-told .given .1)
 
 returns-3 : tie.Need-returns-3
 returns-3 c =
     let a = c .before .before .before .before .before .before .before .args in
     let p = a .p .now in
     ap (λ (t : Tail). fromTag p (a .key) (a .at) (a .end) t) (sym (c .enum-told2 .given .1) ∙ c .before .before .tag-at .ensures)
-    ∙ keyed-value p (a .key) (a .at) (a .end) (c .before .before .before .before .before .before .before .pre .0) (Walk.End (c .before .before .before .enum-told .given .0 .0)) (sym (c .before .before .before .before .before .list-rest .ensures) ∙ c .before .before .before .enum-told .given .1)
+    ∙ keyed-value (a .profile) p (a .key) (a .at) (a .end) (c .before .before .before .before .before .before .before .pre .0) (Walk.End (c .before .before .before .enum-told .given .0 .0)) (sym (c .before .before .before .before .before .list-rest .ensures) ∙ c .before .before .before .enum-told .given .1)
 
 pub rest-spec : {M : Type 1} → statement M
 rest-spec =

@@ -17,10 +17,10 @@ enum-known-f : tie.Need-enum-known-f
 enum-known-f c = search needs
 
 returns : tie.Need-returns
-returns c = sym (c .before .before .before .before .pre .1) ∙ payload-list (c .before .before .before .before .args .p .now) (c .enum-told .given .0 .0) (sym (c .before .before .payload .ensures .0) ∙ c .enum-told .given .1) (λ d. omega (arith, c .before .before .before .before .pre .0, d)) (c .before .before .before .before .pre .0)
+returns c = sym (c .before .before .before .before .pre .1) ∙ payload-list (c .before .before .before .before .args .profile) (c .before .before .before .before .args .p .now) (c .enum-told .given .0 .0) (sym (c .before .before .payload .ensures .0) ∙ c .enum-told .given .1) (λ d. omega (arith, c .before .before .before .before .pre .0, d)) (c .before .before .before .before .pre .0)
 
 returns-2 : tie.Need-returns-2
-returns-2 c = payload-fault (c .before .before .before .before .before .args .p .now) (c .before .f .given .0 .0) (sym (c .before .before .before .payload .ensures .0) ∙ c .before .f .given .1)
+returns-2 c = payload-fault (c .before .before .before .before .before .args .profile) (c .before .before .before .before .before .args .p .now) (c .before .f .given .0 .0) (sym (c .before .before .before .payload .ensures .0) ∙ c .before .f .given .1)
 
 pub unkeyed-spec : {M : Type 1} → statement M
 unkeyed-spec = tie.close (tie.spec payload-requires enum-told enum-known-f returns returns-2)

@@ -15,7 +15,7 @@ walked-requires : tie.Need-walked-requires
 walked-requires c κs = search needs
 
 returns : tie.Need-returns
-returns c = only-walked (c .before .before .before .before .args .class) (c .before .before .before .before .args .p .now) (c .before .before .before .before .args .at) (c .walked .result) (c .walked .ensures)
+returns c = only-walked (c .before .before .before .before .args .profile) (c .before .before .before .before .args .class) (c .before .before .before .before .args .p .now) (c .before .before .before .before .args .at) (c .walked .result) (c .walked .ensures)
 
 enum-told : tie.Need-enum-told
 enum-told c = search needs
@@ -57,16 +57,16 @@ walked-requires-2 : tie.Need-walked-requires-2
 walked-requires-2 c κs = search needs
 
 returns-2 : tie.Need-returns-2
-returns-2 c = held-texts (c .before .before .before .before .before .before .before .args .class) (c .before .before .before .before .before .before .before .args .p .now) (c .before .before .before .before .before .before .before .args .at) (sym (c .before .before .before .before .before .byte-at .ensures) ∙ c .before .before .before .before .if1 .left) (c .before .text-list .result) (c .listed .result) (c .listed .ensures) (c .before .before .enum-told .given .1) (c .before .text-list .ensures)
+returns-2 c = held-texts (c .before .before .before .before .before .before .before .args .profile) (c .before .before .before .before .before .before .before .args .class) (c .before .before .before .before .before .before .before .args .p .now) (c .before .before .before .before .before .before .before .args .at) (sym (c .before .before .before .before .before .byte-at .ensures) ∙ c .before .before .before .before .if1 .left) (c .before .text-list .result) (c .listed .result) (c .listed .ensures) (c .before .before .enum-told .given .1) (c .before .text-list .ensures (c .before .before .before .before .before .before .before .args .profile))
 
 returns-3 : tie.Need-returns-3
-returns-3 c = held-ids (c .before .before .before .before .before .before .before .args .class) (c .before .before .before .before .before .before .before .args .p .now) (c .before .before .before .before .before .before .before .args .at) (sym (c .before .before .before .before .before .byte-at .ensures) ∙ c .before .before .before .before .if1 .left) (c .before .id-list .result) (c .listed2 .result) (c .listed2 .ensures) (c .before .before .enum-told2 .given .1) (c .before .id-list .ensures)
+returns-3 c = held-ids (c .before .before .before .before .before .before .before .args .profile) (c .before .before .before .before .before .before .before .args .class) (c .before .before .before .before .before .before .before .args .p .now) (c .before .before .before .before .before .before .before .args .at) (sym (c .before .before .before .before .before .byte-at .ensures) ∙ c .before .before .before .before .if1 .left) (c .before .id-list .result) (c .listed2 .result) (c .listed2 .ensures) (c .before .before .enum-told2 .given .1) (c .before .id-list .ensures (c .before .before .before .before .before .before .before .args .profile))
 
 returns-4 : tie.Need-returns-4
-returns-4 c = held-torrents (c .before .before .before .before .before .before .before .args .class) (c .before .before .before .before .before .before .before .args .p .now) (c .before .before .before .before .before .before .before .args .at) (sym (c .before .before .before .before .before .byte-at .ensures) ∙ c .before .before .before .before .if1 .left) (c .before .torrent-list .result) (c .listed3 .result) (c .listed3 .ensures) (c .before .before .enum-told3 .given .1) (c .before .torrent-list .ensures)
+returns-4 c = held-torrents (c .before .before .before .before .before .before .before .args .profile) (c .before .before .before .before .before .before .before .args .class) (c .before .before .before .before .before .before .before .args .p .now) (c .before .before .before .before .before .before .before .args .at) (sym (c .before .before .before .before .before .byte-at .ensures) ∙ c .before .before .before .before .if1 .left) (c .before .torrent-list .result) (c .listed3 .result) (c .listed3 .ensures) (c .before .before .enum-told3 .given .1) (c .before .torrent-list .ensures)
 
 returns-5 : tie.Need-returns-5
-returns-5 c = only-walked (c .before .before .before .before .before .args .class) (c .before .before .before .before .before .args .p .now) (c .before .before .before .before .before .args .at) (c .walked2 .result) (c .walked2 .ensures)
+returns-5 c = only-walked (c .before .before .before .before .before .args .profile) (c .before .before .before .before .before .args .class) (c .before .before .before .before .before .args .p .now) (c .before .before .before .before .before .args .at) (c .walked2 .result) (c .walked2 .ensures)
 
 pub value-of-spec : {M : Type 1} → statement M
 value-of-spec =

@@ -20,7 +20,7 @@ add-end : tie.Need-add-end
 add-end c = search needs
 
 returns : tie.Need-returns
-returns c = length-short (c .before .before .before .args .s .now) (c .before .before .before .args .length .0) (omega (arith, c .before .number .ensures))
+returns c = length-short (c .before .before .before .args .profile) (c .before .before .before .args .s .now) (c .before .before .before .args .length .0) (omega (arith, c .before .number .ensures))
 
 sub-read-payload : tie.Need-sub-read-payload
 sub-read-payload c = search needs
@@ -35,7 +35,7 @@ read-payload-requires : tie.Need-read-payload-requires
 read-payload-requires c κs = search needs
 
 returns-2 : tie.Need-returns-2
-returns-2 c = c .read-payload .ensures ∙ ap (λ (n : ℕ). payloadReading (slice (c .before .before .before .before .before .args .s .now) 8 (8 + n))) (c .before .before .before .number .ensures) ∙ length-there (c .before .before .before .before .before .args .s .now) (c .before .before .before .before .before .args .length .0) (omega (arith, c .before .before .before .number .ensures, c .before .before .if1 .left))
+returns-2 c = c .read-payload .ensures ∙ ap (λ (n : ℕ). payloadReading (c .before .before .before .before .before .args .profile) (slice (c .before .before .before .before .before .args .s .now) 8 (8 + n))) (c .before .before .before .number .ensures) ∙ length-there (c .before .before .before .before .before .args .profile) (c .before .before .before .before .before .args .s .now) (c .before .before .before .before .before .args .length .0) (omega (arith, c .before .before .before .number .ensures, c .before .before .if1 .left))
 
 pub read-length-spec : {M : Type 1} → statement M
 read-length-spec =

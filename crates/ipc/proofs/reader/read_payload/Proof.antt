@@ -28,13 +28,13 @@ handshake-requires : tie.Need-handshake-requires
 handshake-requires c κs = search needs
 
 returns-2 : tie.Need-returns-2
-returns-2 c = c .handshake .ensures ∙ payload-dictionary (c .before .before .before .before .before .before .before .before .args .p .now) (c .before .before .enum-told .given .0 .0) (sym (c .before .before .before .before .payload .ensures .0) ∙ c .before .before .enum-told .given .1) (sym (c .before .before .before .before .before .before .byte-at .ensures) ∙ c .before .if2 .taken)
+returns-2 c = c .handshake .ensures ∙ payload-dictionary (c .before .before .before .before .before .before .before .before .args .profile) (c .before .before .before .before .before .before .before .before .args .p .now) (c .before .before .enum-told .given .0 .0) (sym (c .before .before .before .before .payload .ensures .0) ∙ c .before .before .enum-told .given .1) (sym (c .before .before .before .before .before .before .byte-at .ensures) ∙ c .before .if2 .taken)
 
 returns-3 : tie.Need-returns-3
-returns-3 c = payload-fault (c .before .before .before .before .before .before .before .args .p .now) (c .before .f .given .0 .0) (sym (c .before .before .before .payload .ensures .0) ∙ c .before .f .given .1)
+returns-3 c = payload-fault (c .before .before .before .before .before .before .before .args .profile) (c .before .before .before .before .before .before .before .args .p .now) (c .before .f .given .0 .0) (sym (c .before .before .before .payload .ensures .0) ∙ c .before .f .given .1)
 
 returns-4 : tie.Need-returns-4
-returns-4 c = payload-scalar (c .before .before .before .before .before .before .before .args .p .now) (c .before .enum-told .given .0 .0) (sym (c .before .before .before .payload .ensures .0) ∙ c .before .enum-told .given .1) (λ e. c .if2 .left (c .before .before .before .before .before .byte-at .ensures ∙ e)) (λ e. c .before .before .before .before .if1 .left (c .before .before .before .before .before .byte-at .ensures ∙ e))
+returns-4 c = payload-scalar (c .before .before .before .before .before .before .before .args .profile) (c .before .before .before .before .before .before .before .args .p .now) (c .before .enum-told .given .0 .0) (sym (c .before .before .before .payload .ensures .0) ∙ c .before .enum-told .given .1) (λ e. c .if2 .left (c .before .before .before .before .before .byte-at .ensures ∙ e)) (λ e. c .before .before .before .before .if1 .left (c .before .before .before .before .before .byte-at .ensures ∙ e))
 
 pub read-payload-spec : {M : Type 1} → statement M
 read-payload-spec =
