@@ -16,3 +16,4 @@ pub mod KeyText
 pub mod Tried
 pub mod Worthless
 pub mod KeyRule
+pub mod StrictIsLoose

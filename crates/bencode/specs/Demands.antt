@@ -21,7 +21,7 @@ use Rattle.bencode.specs.Strings.{stringAt}
 use Rattle.bencode.specs.Integers.{integerAt}
 use Rattle.bencode.specs.Utf8.{Utf8Text, isText}
 use Rattle.bencode.specs.Key.{keyFault, isFaultCode}
-use Rattle.bencode.specs.Walk.{payloadAt}
+use Rattle.bencode.specs.Walk.{payloadAt, payloadCode}
 use Rattle.bencode.specs.Skip.{skipValue, skipRest}
 use Rattle.bencode.specs.Entry.{entryAt}
 use Rattle.bencode.specs.Item.{itemAt}
@@ -59,6 +59,10 @@ TenForNoText = (p : Profile) (keys : List (List ℕ)) (key : List ℕ) → (keyF
 -- a payload's fault has a code of its profile, which is never 0
 abbrev pub FaultsCoded : Type 0
 FaultsCoded = (p : Profile) (s : List ℕ) (f : Fault) → payloadAt p s ≡ Walk.Fault f → isFaultCode p (f .code) ≡ true
+
+-- request 06: but for 11 the strict profile finds what the loose one finds
+abbrev pub StrictIsLoose : Type 0
+StrictIsLoose = (s : List ℕ) → (payloadCode Profile.Strict s ≡ 11 → ⊥) → payloadAt Profile.Strict s ≡ payloadAt Profile.Loose s
 
 -- ---- looking into a payload where a value's encoding stands
 -- what reading an integer answers there: its value, or a fault where it is none
