@@ -97,20 +97,20 @@ id-range : (z : ℤ) → within 1 largestId z ≡ true → InRange z
 id-range (pos n) e = let h : n ≤ largestId = leb-true n largestId (and-right (leb 1 n) (leb n largestId) e) in omega arith
 id-range (negsuc n) e = clash false e refl
 
-id-formed : (levels : ℕ) (v : Value) → isIdValue v ≡ true → WellFormed Profile.Loose levels v
-id-formed zero (integer z) e = id-range z e
-id-formed (suc levels) (integer z) e = id-range z e
-id-formed levels (string text) e = clash false e refl
-id-formed levels (list vs) e = clash false e refl
-id-formed levels (dictionary es) e = clash false e refl
+id-formed : (profile : Profile) (levels : ℕ) (v : Value) → isIdValue v ≡ true → WellFormed profile levels v
+id-formed profile zero (integer z) e = id-range z e
+id-formed profile (suc levels) (integer z) e = id-range z e
+id-formed profile levels (string text) e = clash false e refl
+id-formed profile levels (list vs) e = clash false e refl
+id-formed profile levels (dictionary es) e = clash false e refl
 
-ids-formed : (levels : ℕ) (vs : Values) → every isIdValue vs ≡ true → All (WellFormed Profile.Loose levels) vs
-ids-formed levels no-value e = tt
-ids-formed levels (value v vs) e = (id-formed levels v (and-left (isIdValue v) (every isIdValue vs) e), ids-formed levels vs (and-right (isIdValue v) (every isIdValue vs) e))
+ids-formed : (profile : Profile) (levels : ℕ) (vs : Values) → every isIdValue vs ≡ true → All (WellFormed profile levels) vs
+ids-formed profile levels no-value e = tt
+ids-formed profile levels (value v vs) e = (id-formed profile levels v (and-left (isIdValue v) (every isIdValue vs) e), ids-formed profile levels vs (and-right (isIdValue v) (every isIdValue vs) e))
 
 -- the level that a list takes is a variable here: a numeral would be written out
-pub id-list-formed : (levels : ℕ) (vs : Values) → every isIdValue vs ≡ true → WellFormed Profile.Loose (suc levels) (list vs)
-id-list-formed levels vs e = ids-formed levels vs e
+pub id-list-formed : (profile : Profile) (levels : ℕ) (vs : Values) → every isIdValue vs ≡ true → WellFormed profile (suc levels) (list vs)
+id-list-formed profile levels vs e = ids-formed profile levels vs e
 
 -- an end is one of items that pass the test
 ended : (t : Bool) (e k : ℕ) → endIf t e ≡ OptionalEnd.End k → t ≡ true
@@ -156,7 +156,7 @@ list-id : (s : List ℕ) → IdList s → isIdList s ≡ true
 unfolding isIdList
 list-id s d =
     let b = all-begins s (encode (list (d .ids))) (d .is) in
-    let ends : itemsEnd Items.Ids s 1 ≡ endIf (every isIdValue (d .ids)) (length s) = items-mean Profile.Loose s 0 Items.Ids (d .ids) 1 (length s) (ids-formed 0 (d .ids) (d .each)) (items-begin s 0 (length s) (d .ids) b) in
+    let ends : itemsEnd Items.Ids s 1 ≡ endIf (every isIdValue (d .ids)) (length s) = items-mean Profile.Loose s 0 Items.Ids (d .ids) 1 (length s) (ids-formed Profile.Loose 0 (d .ids) (d .each)) (items-begin s 0 (length s) (d .ids) b) in
     rw (eq-eqb (byteAt s 0) letterL (list-first s (d .ids) b), ends, d .each, eq-eqb (length s) (length s) refl) refl
 
 pub id-list-exactly : IdListExactly

@@ -5,6 +5,7 @@ pub mod frames
 pub mod meaning
 pub mod writing
 pub mod Accepts
+pub mod StrictIsLoose
 pub mod Tried
 pub mod WritesBack
 pub mod IdLists

@@ -1,23 +1,26 @@
 -- Each frame written reads back as its record, and each handshake as its range.
 -- Assumes nothing.
 use Prim.Native.Nat.{ℕ, zero, suc, _+_, _-_, _^_, _≤_, _<_}
-use mathlib.Core.Path.{_≡_, refl, sym, ap, _∙_}
+use mathlib.Core.Path.{_≡_, refl, sym, ap, subst, _∙_}
+use mathlib.Core.Logic.{inl}
 use mathlib.Core.Bool.{Bool, true, false, cond}
 use mathlib.Core.List.{List, [], _∷_, _++_, append-nil, append-assoc}
 use native.Mathlib.Omega.{arith}
-use native.Mathlib.Decide.{decLt}
+use native.Mathlib.Decide.{decLt, ℕ-discrete}
 use borrow.Author.Tests.{leb-true, le-leb}
 use lib.Dec.{eqb, eqb→eq, leb}
 use lib.IntN.{ℤ, pos}
-use lib.ListN.{length, getD, replicate, List·getD-eq-default, drop}
+use lib.ListN.{length, getD, replicate, List·getD-eq-default, take, drop}
+use lib.Seq.{take-at, drop-at}
 use Rattle.bencode.specs.declared.profile.Profile.{Profile}
-use Rattle.octets.specs.Bytes.{same, slice}
+use Rattle.octets.specs.Bytes.{same, less, slice}
 use Rattle.bencode.specs.Letters.{letterE}
 use Rattle.bencode.specs.Depth.{largestDepth}
 use Rattle.bencode.specs.Integers.{InRange}
 use Rattle.bencode.specs.Utf8.{textFrom}
-use Rattle.bencode.specs.Key.{isUsed, keyFault}
+use Rattle.bencode.specs.Key.{isUsed, isAbove, keyFault}
 use Rattle.bencode.specs.Value.{Value, integer, string, list, Values, no-value, value, encodeString, encode, WellFormed}
+use Rattle.bencode.proofs.OneValue.{one-value}
 use Rattle.octets.proofs.sequences.BeginsLaws.{slice-begins}
 use Rattle.octets.proofs.sequences.Order.{clash}
 use Rattle.octets.proofs.general.Table.{at}
@@ -30,7 +33,7 @@ use Rattle.ipc.specs.declared.versions.OptionalVersions.{OptionalVersion
 use Rattle.ipc.specs.declared.writer.Given.{Given}
 use Rattle.ipc.specs.declared.writer.Written.{Written}
 use Rattle.ipc.specs.Answer.{Answer, part, accepted, acceptedHandshake, contentOf}
-use Rattle.ipc.specs.Reader.{readFrame}
+use Rattle.ipc.specs.Reader.{readFrameBy, readFrame}
 use Rattle.ipc.specs.HandshakeWriter.{handshakeValue, handshakePayload, rangeWritten, handshakeWritten}
 use Rattle.ipc.specs.Header.{headerLength, largestPayload}
 use Rattle.ipc.specs.Hex.{hexHeader}
@@ -39,11 +42,12 @@ use Rattle.ipc.specs.Keys.{keyText, Listed, listed, unlisted, numberFrom
 use Rattle.ipc.specs.Meaning.{wholeAt, judged, versionsAnswer, meaning}
 use Rattle.ipc.specs.Versions.{rangeOf, IsRange}
 use Rattle.ipc.specs.Writer.{nothingFits, integerFits, bytesFit, valueFits, encodeGiven, encodeTag, payloadOf, frameOf, fitted, writeAnswer, messageFault}
-use Rattle.ipc.specs.Demands.{IdList, GivenFits, Named, ReadsBack, BufferReadsBack, HandshakeReadsBack}
-use Rattle.ipc.proofs.Accepts.{answers-meaning}
+use Rattle.ipc.specs.Demands.{hexFrom, FramedBy, IdList, GivenFits, Named, ReadsBackBy, ReadsBack, BufferReadsBack, HandshakeReadsBack, HandshakeNotStrict}
+use Rattle.ipc.proofs.Accepts.{answers-meaning-by, accepts-exactly-by}
 use Rattle.ipc.proofs.headers.HexLaws.{header-length, header-digits, from-header}
 use Rattle.ipc.proofs.IdLists.{id-list-formed, id-list-exactly}
 use Rattle.ipc.proofs.meaning.Inverts.{spelling, untagged-text, tagged-text}
+use Rattle.ipc.proofs.StrictIsLoose.{strict-is-loose}
 use Rattle.ipc.proofs.WritesBack.{Stands, text-stands, stands-in, payload-again}
 use Rattle.ipc.proofs.writing.WriterLaws.{frame-length}
 use Rattle.ipc.proofs.frames.VersionLaws.{range-is, range-made}
@@ -105,16 +109,16 @@ key-again (suc k) w = go (decLt k 20)
 
 -- ---- values
 -- what a value that is handed in is, at an offset of the payload
-record Handed (class : Class) (given : Given) (s : List ℕ) (at : ℕ) : Type 0 where
+record Handed (profile : Profile) (class : Class) (given : Given) (s : List ℕ) (at : ℕ) : Type 0 where
   value : Value
   held : MessageValue
-  formed : WellFormed Profile.Loose 15 value
+  formed : WellFormed profile 15 value
   same : encodeGiven class given s ≡ encode value
   judges : judged class at value ≡ Checked.Value held
   names : (f : List ℕ) → Stands f at value → Named class f given s (contentOf held)
 
-module _ (s : List ℕ) (at : ℕ) where
-  nothing-handed : (class : Class) → nothingFits class ≡ true → Handed class Given.Nothing s at
+module _ (profile : Profile) (s : List ℕ) (at : ℕ) where
+  nothing-handed : (class : Class) → nothingFits class ≡ true → Handed profile class Given.Nothing s at
   unfolding encodeGiven encode
   nothing-handed Class.Unlisted e = clash false e refl
   nothing-handed Class.Boolean e = clash false e refl
@@ -137,11 +141,11 @@ module _ (s : List ℕ) (at : ℕ) where
   integer-judged Class.Port z e = rw e refl
   integer-judged Class.IdList z e = clash false e refl
 
-  integer-handed : (class : Class) (z : ℤ) → InRange z → integerFits class z ≡ true → Handed class (Given.Integer z) s at
+  integer-handed : (class : Class) (z : ℤ) → InRange z → integerFits class z ≡ true → Handed profile class (Given.Integer z) s at
   unfolding encodeGiven
   integer-handed class z fits e = record { value = integer z; held = MessageValue.Integer z; formed = fits; same = refl; judges = integer-judged class z e; names = λ f b. refl }
 
-  text-handed : Handed Class.Text Given.Bytes s at
+  text-handed : Handed profile Class.Text Given.Bytes s at
   unfolding encodeGiven encode
   text-handed = record {
     value = string s;
@@ -160,18 +164,18 @@ module _ (s : List ℕ) (at : ℕ) where
       slice-begins f (headerLength + at) (headerLength + at + length (encode (list (d .ids)))) (encode (list (d .ids))) b in
       (headerLength + at, ap (λ (k : ℕ). part (headerLength + at) k) size, ap (λ (k : ℕ). slice f (headerLength + at) (headerLength + at + k)) (sym size) ∙ stands ∙ sym (d .is))
 
-  ids-handed : IdList s → Handed Class.IdList Given.Bytes s at
+  ids-handed : IdList s → Handed profile Class.IdList Given.Bytes s at
   unfolding encodeGiven
   ids-handed d = record {
     value = list (d .ids);
     held = wholeAt at (list (d .ids));
-    formed = id-list-formed 14 (d .ids) (d .each);
+    formed = id-list-formed profile 14 (d .ids) (d .each);
     same = d .is;
     judges = rw (d .each) refl;
     names = λ f b. ids-named f d b;
   }
 
-  bytes-handed : (class : Class) → bytesFit class s ≡ true → Handed class Given.Bytes s at
+  bytes-handed : (class : Class) → bytesFit class s ≡ true → Handed profile class Given.Bytes s at
   bytes-handed Class.Unlisted e = clash false e refl
   bytes-handed Class.Boolean e = clash false e refl
   bytes-handed Class.Ignored e = clash false e refl
@@ -182,7 +186,7 @@ module _ (s : List ℕ) (at : ℕ) where
   bytes-handed Class.Port e = clash false e refl
   bytes-handed Class.IdList e = ids-handed (id-list-exactly s .0 e)
 
-  handed : (class : Class) (given : Given) → GivenFits given → valueFits class given s ≡ true → Handed class given s at
+  handed : (class : Class) (given : Given) → GivenFits given → valueFits class given s ≡ true → Handed profile class given s at
   unfolding valueFits
   handed class Given.Nothing g e = nothing-handed class e
   handed class (Given.Integer z) g e = integer-handed class z g e
@@ -208,24 +212,24 @@ tag-fits : (n : ℕ) → n ≤ largestTag → InRange (pos n)
 tag-fits n h = let small : n < 2 ^ 63 = omega arith in small
 
 -- strings and integers are well formed at any level
-string-formed : (levels : ℕ) (text : List ℕ) → WellFormed Profile.Loose levels (string text)
-string-formed zero text = tt
-string-formed (suc levels) text = tt
+string-formed : (profile : Profile) (levels : ℕ) (text : List ℕ) → WellFormed profile levels (string text)
+string-formed profile zero text = tt
+string-formed profile (suc levels) text = tt
 
-integer-formed : (levels : ℕ) (z : ℤ) → InRange z → WellFormed Profile.Loose levels (integer z)
-integer-formed zero z f = f
-integer-formed (suc levels) z f = f
+integer-formed : (profile : Profile) (levels : ℕ) (z : ℤ) → InRange z → WellFormed profile levels (integer z)
+integer-formed profile zero z f = f
+integer-formed profile (suc levels) z f = f
 
 -- over any number of levels: with 16 antt writes all of them out
-values-formed : (levels : ℕ) (key : List ℕ) (x : Value) → WellFormed Profile.Loose levels x → WellFormed Profile.Loose (suc levels) (list (value (string key) (value x no-value)))
-values-formed levels key x g = (string-formed levels key, (g, tt))
+values-formed : (profile : Profile) (levels : ℕ) (key : List ℕ) (x : Value) → WellFormed profile levels x → WellFormed profile (suc levels) (list (value (string key) (value x no-value)))
+values-formed profile levels key x g = (string-formed profile levels key, (g, tt))
 
-tagged-formed : (levels : ℕ) (key : List ℕ) (x : Value) (z : ℤ) → InRange z → WellFormed Profile.Loose levels x → WellFormed Profile.Loose (suc levels) (list (value (string key) (value x (value (integer z) no-value))))
-tagged-formed levels key x z f g = (string-formed levels key, (g, (integer-formed levels z f, tt)))
+tagged-formed : (profile : Profile) (levels : ℕ) (key : List ℕ) (x : Value) (z : ℤ) → InRange z → WellFormed profile levels x → WellFormed profile (suc levels) (list (value (string key) (value x (value (integer z) no-value))))
+tagged-formed profile levels key x z f g = (string-formed profile levels key, (g, (integer-formed profile levels z f, tt)))
 
-message-formed : (key : List ℕ) (x : Value) (tag : ℕ) → tag ≤ largestTag → WellFormed Profile.Loose 15 x → WellFormed Profile.Loose largestDepth (messageValue key x tag)
-message-formed key x zero h g = values-formed 15 key x g
-message-formed key x (suc t) h g = tagged-formed 15 key x (pos (suc t)) (tag-fits (suc t) h) g
+message-formed : (profile : Profile) (key : List ℕ) (x : Value) (tag : ℕ) → tag ≤ largestTag → WellFormed profile 15 x → WellFormed profile largestDepth (messageValue key x tag)
+message-formed profile key x zero h g = values-formed profile 15 key x g
+message-formed profile key x (suc t) h g = tagged-formed profile 15 key x (pos (suc t)) (tag-fits (suc t) h) g
 
 -- a tag that is written is one
 tag-again : (n : ℕ) → 1 ≤ n → n ≤ largestTag → tagOf (pos n) ≡ OptionalTag.Tag (record { 0 = n })
@@ -239,10 +243,10 @@ message-meant used key x (suc t) held h e = rw (tag-again (suc t) (omega arith) 
 
 -- ---- frames
 -- the frame of a well-formed value reads as what it means
-frame-reads : (v : Value) (a : Answer) (rest : List ℕ) → WellFormed Profile.Loose largestDepth v → length (encode v) ≤ largestPayload → meaning (headerLength + length (encode v)) v ≡ a → readFrame (frameOf (encode v) ++ rest) ≡ a
+frame-reads : (profile : Profile) (v : Value) (a : Answer) (rest : List ℕ) → WellFormed profile largestDepth v → length (encode v) ≤ largestPayload → meaning (headerLength + length (encode v)) v ≡ a → readFrameBy profile (frameOf (encode v) ++ rest) ≡ a
 unfolding frameOf
-frame-reads v a rest g small e =
-    answers-meaning (frameOf (encode v) ++ rest) a (record {
+frame-reads profile v a rest g small e =
+    answers-meaning-by profile (frameOf (encode v) ++ rest) a (record {
       header = hexHeader (length (encode v));
       payload = v;
       rest = rest;
@@ -255,6 +259,18 @@ frame-reads v a rest g small e =
       means = e;
     })
 
+-- a frame of the grammar at the front of bytes has the payload that was framed
+pub front-payload : (profile : Profile) (p rest : List ℕ) (a : Answer) → length p ≤ largestPayload → (f : FramedBy profile (frameOf p ++ rest) a) → encode (f .payload) ≡ p
+unfolding frameOf
+front-payload profile p rest a small f =
+    let q = encode (f .payload) in
+    let header = hexHeader (length p) in
+    let split : f .header ++ (encode (f .payload) ++ f .rest) ≡ hexHeader (length p) ++ (p ++ rest) = sym (f .is) ∙ append-assoc header p rest in
+    let front : f .header ≡ hexHeader (length p) = sym (take-at (f .header) (q ++ f .rest) 8 (f .eight)) ∙ ap (take 8) split ∙ take-at header (p ++ rest) 8 (header-length (length p)) in
+    let size : length (encode (f .payload)) ≡ length p = sym (f .number) ∙ ap (hexFrom 0) front ∙ from-header (length p) (omega arith) in
+    let after : encode (f .payload) ++ f .rest ≡ p ++ rest = sym (drop-at (f .header) (q ++ f .rest) 8 (f .eight)) ∙ ap (drop 8) split ∙ drop-at header (p ++ rest) 8 (header-length (length p)) in
+    sym (take-at q (f .rest) (length p) size) ∙ ap (take (length p)) after ∙ take-at p rest (length p) refl
+
 -- where a message's value stands in the frame of a payload
 frame-stands : (p : List ℕ) (key : List ℕ) (x : Value) (tag : ℕ) → p ≡ spelling key x tag → Stands (frameOf p) (1 + length (encodeString key)) x
 unfolding frameOf
@@ -262,7 +278,7 @@ frame-stands p key x tag e =
     stands-in (frameOf p) (hexHeader (length p)) p (encodeString key) (encode x) (encodeTag tag ++ (letterE ∷ [])) [] (header-length (length p)) (ap (λ (l : List ℕ). hexHeader (length p) ++ l) (sym (append-nil p))) e
 
 -- ---- the statements
-module _ (key tag n : ℕ) (given : Given) (s rest : List ℕ) (w : Passed key given s tag n) (d : Handed (classOf key) given s (1 + length (encodeString (keyText key)))) where
+module _ (profile : Profile) (key tag n : ℕ) (given : Given) (s rest : List ℕ) (w : Passed key given s tag n) (d : Handed profile (classOf key) given s (1 + length (encodeString (keyText key)))) where
   spelt : payloadOf key given s tag ≡ spelling (keyText key) (d .value) tag
   spelt = payload-again key given s tag (keyText key) (d .value) refl (d .same)
 
@@ -277,22 +293,26 @@ module _ (key tag n : ℕ) (given : Given) (s rest : List ℕ) (w : Passed key g
       ap (λ (i : ℕ). judged (classOf i) (1 + length (encodeString (keyText key))) (d .value)) k ∙ d .judges in
       message-meant n (keyText key) (d .value) tag (d .held) (w .tagged) j ∙ ap (λ (i : ℕ). accepted n i tag (contentOf (d .held))) k
 
-  message-reads : readFrame (frameOf (payloadOf key given s tag) ++ rest) ≡ accepted n key tag (contentOf (d .held))
+  message-reads : readFrameBy profile (frameOf (payloadOf key given s tag) ++ rest) ≡ accepted n key tag (contentOf (d .held))
   message-reads =
       let v = messageValue (keyText key) (d .value) tag in
       let size : length (payloadOf key given s tag) ≡ length (encode v) = ap length payload-value in
       let used : headerLength + length (encode v) ≡ n = omega (arith, w .counted .count) in
-      ap (λ (p : List ℕ). readFrame (frameOf p ++ rest)) payload-value
-      ∙ frame-reads v (accepted n key tag (contentOf (d .held))) rest (message-formed (keyText key) (d .value) tag (w .tagged) (d .formed)) (omega (arith, w .counted .small)) (ap (λ (m : ℕ). meaning m v) used ∙ meant)
+      ap (λ (p : List ℕ). readFrameBy profile (frameOf p ++ rest)) payload-value
+      ∙ frame-reads profile v (accepted n key tag (contentOf (d .held))) rest (message-formed profile (keyText key) (d .value) tag (w .tagged) (d .formed)) (omega (arith, w .counted .small)) (ap (λ (m : ℕ). meaning m v) used ∙ meant)
+
+pub reads-back-by : ReadsBackBy
+reads-back-by profile key tag room n given s rest fits e =
+    let w = passed key given s tag room n e in
+    let d = handed profile s (1 + length (encodeString (keyText key))) (classOf key) given fits (w .fits) in (
+      contentOf (d .held),
+      message-reads profile key tag n given s rest w d,
+      d .names (frameOf (payloadOf key given s tag)) (frame-stands (payloadOf key given s tag) (keyText key) (d .value) tag (spelt profile key tag n given s rest w d)),
+    )
 
 pub reads-back : ReadsBack
-reads-back key tag room n given s rest fits e =
-    let w = passed key given s tag room n e in
-    let d = handed s (1 + length (encodeString (keyText key))) (classOf key) given fits (w .fits) in (
-      contentOf (d .held),
-      message-reads key tag n given s rest w d,
-      d .names (frameOf (payloadOf key given s tag)) (frame-stands (payloadOf key given s tag) (keyText key) (d .value) tag (spelt key tag n given s rest w d)),
-    )
+unfolding readFrame
+reads-back = reads-back-by Profile.Loose
 
 pub buffer-reads-back : BufferReadsBack
 buffer-reads-back key tag n given s before after fits o =
@@ -325,9 +345,30 @@ unfolding same ascii
 handshake-meant used low high r = ap (versionsAnswer used) (range-is low high r)
 
 pub handshake-reads-back : HandshakeReadsBack
-unfolding handshakePayload
+unfolding handshakePayload readFrame
 handshake-reads-back low high room n rest e =
     let w = ranged low high room n e in
     let v = handshakeValue low high in
-    frame-reads v (acceptedHandshake n low high) rest (handshake-formed low high (w .range)) (w .counted .small)
+    frame-reads Profile.Loose v (acceptedHandshake n low high) rest (handshake-formed low high (w .range)) (w .counted .small)
     (ap (λ (m : ℕ). meaning m v) (w .counted .count) ∙ handshake-meant n low high (w .range))
+
+-- its keys do not rise
+handshake-unsorted : (low high : ℕ) → WellFormed Profile.Strict largestDepth (handshakeValue low high) → ⊥
+unfolding keyFault textFrom isUsed isAbove same less ascii
+handshake-unsorted low high g = let fault : _≡_ {A = ℕ} 11 0 = g .1 .2 .0 in omega arith
+
+pub handshake-not-strict : HandshakeNotStrict
+unfolding handshakePayload
+handshake-not-strict low high room n rest e = go (ℕ-discrete (readFrameBy Profile.Strict (frameOf (encode v) ++ rest) .code) 11)
+  where
+    v : Value
+    v = handshakeValue low high
+
+    go : Dec (readFrameBy Profile.Strict (frameOf (encode v) ++ rest) .code ≡ 11) → readFrameBy Profile.Strict (frameOf (encode v) ++ rest) .code ≡ 11
+    go (yes is) = is
+    go (no other) =
+        let s = frameOf (encode v) ++ rest in
+        let a = acceptedHandshake n low high in
+        let f = accepts-exactly-by Profile.Strict s a (inl refl) .0 (strict-is-loose s other ∙ handshake-reads-back low high room n rest e) in
+        let payload : f .payload ≡ v = one-value (f .payload) v (front-payload Profile.Strict (encode v) rest a (ranged low high room n e .counted .small) f) in
+        absurd (handshake-unsorted low high (subst (λ (x : Value). WellFormed Profile.Strict largestDepth x) payload (f .formed)))

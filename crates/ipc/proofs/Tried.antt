@@ -28,11 +28,15 @@ use Rattle.ipc.specs.Reader.{payloadReading, lengthReading, readFrame}
 use Rattle.ipc.specs.HandshakeWriter.{handshakePayload}
 use Rattle.ipc.specs.Hex.{hexDigit, hexIn, hexHeader}
 use Rattle.ipc.specs.Writer.{encodeGiven, encodeTag, payloadOf, frameOf}
-use Rattle.ipc.specs.Tries.{tries, FramesTried, FramesWritten}
+use Rattle.ipc.specs.Tries.{tries, FramesTried, strictTries, StrictTried, FramesWritten}
 
 pub frames-tried : FramesTried
 unfolding tries skipFrom itemAt readFrame lengthReading payloadReading ascii hexValue headerIn readHeader sized tagOf torrentIdOf listed numberFrom keyNumber classOf entryAt fieldAt fieldOf idEnd torrentEnd itemEnd itemsEnd listPart formatted tailAt messageReading rangeOf rangeAt dictionaryVersions handshakeReading payloadAt valueAt scalarAt integerAt integerFrom numeralAt digits stringAt listFrom dictionaryFrom repeat keyFault textFrom isUsed isAbove same less
 frames-tried = refl
+
+pub strict-tried : StrictTried
+unfolding strictTries skipFrom itemAt lengthReading payloadReading ascii hexValue headerIn readHeader sized tagOf torrentIdOf listed numberFrom keyNumber classOf entryAt fieldAt fieldOf idEnd torrentEnd itemEnd itemsEnd listPart formatted tailAt messageReading rangeOf rangeAt dictionaryVersions handshakeReading payloadAt valueAt scalarAt integerAt integerFrom numeralAt digits stringAt listFrom dictionaryFrom repeat keyFault textFrom isUsed isAbove same less
+strict-tried = refl
 
 pub frames-written : FramesWritten
 unfolding frameOf payloadOf flatten encodeGiven encodeTag keyText classOf listed handshakePayload hexHeader hexIn hexDigit ascii encode decimal decimalBefore

@@ -1,35 +1,35 @@
--- Worthless builds fall: a reader that refuses always or answers one thing, a writer that invents a count or refuses always.
+-- Worthless builds fall: a reader that refuses always, answers one thing or knows one profile only, a writer that invents a count or
+-- refuses always.
 -- Assumes nothing.
 use Prim.Native.Nat.{ℕ, _+_, _≤_}
 use mathlib.Core.Path.{_≡_, refl, sym, ap, _∙_}
 use mathlib.Core.Logic.{inl, inr}
-use mathlib.Core.List.{List, [], _++_, append-assoc}
+use mathlib.Core.List.{List, [], _++_}
 use native.Mathlib.Omega.{arith}
 use lib.IntN.{pos}
-use lib.ListN.{length, getD, take}
-use lib.Seq.{take-at}
+use lib.ListN.{length, getD}
 use Rattle.octets.specs.Numerals.{decimal, decimalBefore}
 use Rattle.bencode.specs.Value.{encode}
+use Rattle.bencode.specs.declared.profile.Profile.{Profile}
 use Rattle.ipc.specs.declared.writer.Given.{Given}
 use Rattle.ipc.specs.declared.writer.Written.{Written}
-use Rattle.ipc.specs.Answer.{Answer, message, integer, refused, accepted}
+use Rattle.ipc.specs.Answer.{Answer, message, integer, refused, accepted, acceptedHandshake}
 use Rattle.octets.specs.Ascii.{ascii}
-use Rattle.ipc.specs.Reader.{readFrame}
+use Rattle.ipc.specs.Reader.{readFrameBy, readFrame}
 use Rattle.ipc.specs.HandshakeWriter.{handshakePayload, handshakeWritten}
 use Rattle.ipc.specs.Header.{headerLength, largestPayload}
 use Rattle.ipc.specs.Hex.{hexIn, hexHeader}
 use Rattle.ipc.specs.Keys.{listed, classOf, isWritten}
-use Rattle.ipc.specs.Tries.{tries}
+use Rattle.ipc.specs.Tries.{tries, strictTries}
 use Rattle.ipc.specs.Writer.{frameOf, fitted}
-use Rattle.ipc.specs.Demands.{hexFrom, AcceptsExactlyFor, GivenFits, Writer, writer, WritesBackFor}
+use Rattle.ipc.specs.Demands.{AcceptsExactlyFor, GivenFits, Writer, writer, WritesBackFor}
 use Rattle.ipc.specs.Versions.{rangeOf}
-use Rattle.ipc.specs.Worthless.{RefusingReaderFalls, ConstantReaderFalls, InventedCountFalls, oneMore, OneMoreFalls, HandshakeOneMoreFalls, RefusingWriterFalls}
-use Rattle.ipc.proofs.Accepts.{accepts-exactly, answers-by-row}
-use Rattle.ipc.proofs.headers.HexLaws.{header-length, from-header}
+use Rattle.ipc.specs.Worthless.{RefusingReaderFalls, ConstantReaderFalls, LooseReaderFalls, InventedCountFalls, oneMore, OneMoreFalls, HandshakeOneMoreFalls, RefusingWriterFalls}
+use Rattle.ipc.proofs.Accepts.{answers-meaning-by, accepts-exactly, answers-by-row}
 use Rattle.ipc.proofs.meaning.Inverts.{inverts}
 use Rattle.ipc.proofs.writing.WriterLaws.{frame-length}
-use Rattle.ipc.proofs.ReadsBack.{reads-back, handshake-reads-back}
-use Rattle.ipc.proofs.Tried.{frames-tried}
+use Rattle.ipc.proofs.ReadsBack.{front-payload, reads-back, handshake-reads-back}
+use Rattle.ipc.proofs.Tried.{frames-tried, strict-tried}
 use Rattle.ipc.proofs.WritesBack.{writes-back}
 
 -- ---- two frames of the proved set: one that is accepted, and one that is not
@@ -63,18 +63,32 @@ constant-reader-falls a exact =
     let other : a ≡ refused 20 0 = exact (ascii "00000003i7e") (refused 20 0) (inr twenty) .1 (accepts-exactly (ascii "00000003i7e") (refused 20 0) (inr twenty) .0 integer-read) in
     omega (arith, ap (λ (x : Answer). x .code) (sym (port-accepted (λ s. a) exact) ∙ other))
 
+-- a handshake of the proved set, in each profile
+abbrev handshakeFrame : List ℕ
+handshakeFrame = ascii "0000001dd7:versiond3:mini1e3:maxi2eee"
+
+loosely-read : readFrame handshakeFrame ≡ acceptedHandshake 37 1 2
+unfolding tries
+loosely-read = ap (λ (l : List Answer). getD l 4 (refused 0 0)) frames-tried
+
+strictly-read : readFrameBy Profile.Strict handshakeFrame ≡ refused 11 19
+unfolding strictTries
+strictly-read = ap (λ (l : List Answer). getD l 3 (refused 0 0)) strict-tried
+
+pub loose-reader-falls : LooseReaderFalls
+loose-reader-falls read loosely exact =
+    let answer = acceptedHandshake 37 1 2 in
+    let framed = exact Profile.Strict handshakeFrame answer (inl refl) .0 (loosely handshakeFrame ∙ loosely-read) in
+    omega (arith, ap (λ (x : Answer). x .code) (sym (answers-meaning-by Profile.Strict handshakeFrame answer framed) ∙ strictly-read))
+
 -- ---- writers
 -- a frame at the front of bytes is accepted with its own length
 front-consumed : (p rest : List ℕ) (a : Answer) → length p ≤ largestPayload → a .code ≡ 0 → a .kind ≡ message → readFrame (frameOf p ++ rest) ≡ a → a .consumed ≡ length (frameOf p)
-unfolding frameOf
 front-consumed p rest a small code kind e =
     let f = accepts-exactly (frameOf p ++ rest) a (inl code) .0 e in
     let n = headerLength + length (encode (f .payload)) in
     let used : a .consumed ≡ n = ap (λ (x : Answer). x .consumed) (sym (inverts n a code kind (f .payload) (f .means) .is)) in
-    let front : f .header ≡ hexHeader (length p) =
-    sym (take-at (f .header) (encode (f .payload) ++ f .rest) 8 (f .eight)) ∙ ap (take 8) (sym (f .is) ∙ append-assoc (hexHeader (length p)) p rest)
-    ∙ take-at (hexHeader (length p)) (p ++ rest) 8 (header-length (length p)) in
-    let number : length p ≡ length (encode (f .payload)) = sym (from-header (length p) (omega arith)) ∙ ap (hexFrom 0) (sym front) ∙ f .number in
+    let size : length (encode (f .payload)) ≡ length p = ap length (front-payload Profile.Loose p rest a small f) in
     omega (arith, frame-length p)
 
 pub invented-count-falls : InventedCountFalls

@@ -123,6 +123,10 @@ AnswersByRow = AnswersByRowFor readFrame
 abbrev pub AnswersByRowBy : Type 0
 AnswersByRowBy = (profile : Profile) (s : List ℕ) (a : Answer) → (readFrameBy profile s ≡ a) ↔ AnswerRowBy profile s a
 
+-- request 06: but for 11 the strict reader answers as the loose one does
+abbrev pub StrictIsLoose : Type 0
+StrictIsLoose = (s : List ℕ) → (readFrameBy Profile.Strict s .code ≡ 11 → ⊥) → readFrameBy Profile.Strict s ≡ readFrame s
+
 -- a fault of the header, or of the length that it says, is the reader's answer, and where it has none it says a length
 pub record HeaderAnswered (s : List ℕ) : Type 0 where
   pub fault : (headerCode (readHeader s) ≡ 0 → ⊥) → readFrame s ≡ refused (headerCode (readHeader s)) (headerOffset (readHeader s))
@@ -190,6 +194,11 @@ ReadsBackFor w = (key tag room n : ℕ) (given : Given) (s rest : List ℕ) → 
 abbrev pub ReadsBack : Type 0
 ReadsBack = ReadsBackFor writer
 
+-- the same in every profile, of messages; of handshakes see `HandshakeNotStrict`
+abbrev pub ReadsBackBy : Type 0
+ReadsBackBy = (profile : Profile) (key tag room n : ℕ) (given : Given) (s rest : List ℕ) → GivenFits given → writer .answer key given s tag room ≡ Written.Count n
+    → (c : Content) × (readFrameBy profile (writer .frame key given s tag ++ rest) ≡ accepted n key tag c) × Named (classOf key) (writer .frame key given s tag) given s c
+
 -- the same of the buffer that was lent
 abbrev pub BufferReadsBack : Type 0
 BufferReadsBack = (key tag n : ℕ) (given : Given) (s before after : List ℕ) → GivenFits given
@@ -211,6 +220,10 @@ HandshakeReadsBackFor w = (low high room n : ℕ) (rest : List ℕ) → w .answe
 
 abbrev pub HandshakeReadsBack : Type 0
 HandshakeReadsBack = HandshakeReadsBackFor handshakeWriter
+
+-- the strict reader refuses each of them by 11: `min` is written before `max`
+abbrev pub HandshakeNotStrict : Type 0
+HandshakeNotStrict = (low high room n : ℕ) (rest : List ℕ) → handshakeWriter .answer low high room ≡ Written.Count n → readFrameBy Profile.Strict (handshakeWriter .frame low high ++ rest) .code ≡ 11
 
 -- the value to hand in for what a reader named, and the bytes of it
 abbrev pub givenOf : Content → Given

@@ -1,14 +1,15 @@
--- Statements that antt computes: document 01's frames to try that are marked P, in one table, and three frames as they are
--- written.
+-- Statements that antt computes: document 01's frames to try that are marked P, in one table; frames of the strict profile, in
+-- another; and three frames as they are written.
 -- Assumes nothing.
 use Prim.Native.String.{String}
 use lib.IntN.{pos}
 use mathlib.Core.Path.{_≡_}
 use mathlib.Core.List.{List, [], _∷_, map}
+use Rattle.bencode.specs.declared.profile.Profile.{Profile}
 use Rattle.ipc.specs.declared.writer.Given.{Given}
 use Rattle.ipc.specs.Answer.{Answer, integer, part, refused, accepted, acceptedHandshake, offFormat}
 use Rattle.octets.specs.Ascii.{ascii}
-use Rattle.ipc.specs.Reader.{readFrame}
+use Rattle.ipc.specs.Reader.{readFrameBy, readFrame}
 use Rattle.ipc.specs.HandshakeWriter.{handshakePayload}
 use Rattle.ipc.specs.Writer.{payloadOf, frameOf}
 
@@ -40,6 +41,21 @@ tries =
 -- the statement of the proved set: each frame has its answer
 abbrev pub FramesTried : Type 0
 FramesTried = map (λ t. readFrame (ascii (t .frame))) tries ≡ map (λ t. t .answer) tries
+
+-- frames of the strict profile (document 02, request 06): a key that comes again is 8, though it does not rise; one that comes
+-- once and does not rise is 11, in a dictionary of a message too; a handshake is accepted with `max` before `min`, and not as it
+-- is written
+unfoldable pub strictTries : List Try
+strictTries =
+    try "00000014d1:ai1e1:bi2e1:ai3ee" (refused 8 13) ∷
+    try "0000000Ed1:bi1e1:ai2ee" (refused 11 7) ∷
+    try "00000019l4:infold2:idi8e1:ai1eeee" (refused 11 16) ∷
+    try "0000001dd7:versiond3:mini1e3:maxi2eee" (refused 11 19) ∷
+    try "0000001dd7:versiond3:maxi2e3:mini1eee" (acceptedHandshake 37 1 2) ∷
+    []
+
+abbrev pub StrictTried : Type 0
+StrictTried = map (λ t. readFrameBy Profile.Strict (ascii (t .frame))) strictTries ≡ map (λ t. t .answer) strictTries
 
 -- frames as they are written: the length in upper case, `0:` for an ignored value and no tag for 0; a tag; a handshake with
 -- `min` before `max`

@@ -4,13 +4,15 @@ use Prim.Native.Nat.{ℕ, _+_, _≤_}
 use mathlib.Core.Path.{_≡_}
 use mathlib.Core.List.{List}
 use lib.ListN.{length}
+use Rattle.bencode.specs.declared.profile.Profile.{Profile}
 use Rattle.ipc.specs.declared.writer.Given.{Given}
 use Rattle.ipc.specs.declared.writer.Written.{Written}
 use Rattle.ipc.specs.Answer.{Answer}
 use Rattle.ipc.specs.Header.{largestPayload}
+use Rattle.ipc.specs.Reader.{readFrame}
 use Rattle.ipc.specs.Writer.{frameOf}
 use Rattle.ipc.specs.HandshakeWriter.{handshakeWritten}
-use Rattle.ipc.specs.Demands.{AcceptsExactlyFor, AnswersByRowFor, GivenFits, Writer, writer, ReadsBackFor, handshakeWriter, HandshakeReadsBackFor, WritesBackFor}
+use Rattle.ipc.specs.Demands.{AcceptsExactlyFor, AcceptsExactlyByFor, AnswersByRowFor, GivenFits, Writer, writer, ReadsBackFor, handshakeWriter, HandshakeReadsBackFor, WritesBackFor}
 
 -- a reader that refuses always, with whatever numbers, falls by demand 1, and by demand 2
 abbrev pub RefusingReaderFalls : Type 0
@@ -19,6 +21,10 @@ RefusingReaderFalls = (read : List ℕ → Answer) → ((s : List ℕ) → read 
 -- a reader with one constant answer, whatever it is, falls by demand 2
 abbrev pub ConstantReaderFalls : Type 0
 ConstantReaderFalls = (a : Answer) → AcceptsExactlyFor (λ s. a) → ⊥
+
+-- a reader that answers in the strict profile as in the loose one falls by demand 2 in every profile
+abbrev pub LooseReaderFalls : Type 0
+LooseReaderFalls = (read : Profile → List ℕ → Answer) → ((s : List ℕ) → read Profile.Strict s ≡ readFrame s) → AcceptsExactlyByFor read → ⊥
 
 -- a writer that leaves a frame and counts another number of bytes than it has, be it for one message only, falls by demand 2
 abbrev pub InventedCountFalls : Type 0
