@@ -1,5 +1,5 @@
-// Answers a stream of cases, a line for each: `r` reads a frame, `w` writes a message, `s` writes a handshake and `a` gives
-// the version that two ranges agree on.
+// Answers a stream of cases, a line for each: `r` reads a frame, `R` by the strict reader, `w` writes a message, `s` writes a
+// handshake and `a` gives the version that two ranges agree on.
 mod number;
 mod reading;
 mod written;
@@ -15,6 +15,10 @@ fn answer_case(operation: u8, body: &[u8], out: &mut [u8]) -> bool {
     match operation {
         b'r' => {
             print_reading(numbers_of(ipc::read(body)));
+            true
+        }
+        b'R' => {
+            print_reading(numbers_of(ipc::read_strict(body)));
             true
         }
         b'w' => print_message(body, out),
