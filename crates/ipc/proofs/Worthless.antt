@@ -1,5 +1,5 @@
--- Worthless builds fall: a reader that refuses always, answers one thing or knows one profile only, a writer that invents a count or
--- refuses always.
+-- Worthless builds fall: a reader that refuses always, answers one thing or has one profile only, a writer that invents a
+-- count or refuses always.
 -- Assumes nothing.
 use Prim.Native.Nat.{ℕ, _+_, _≤_}
 use mathlib.Core.Path.{_≡_, refl, sym, ap, _∙_}
