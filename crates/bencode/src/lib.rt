@@ -47,6 +47,7 @@ pub use records::record;
 pub use runs::positives;
 pub use runs::texts;
 pub use skip::skip_rest;
+pub use skip::skip_value;
 pub use strings::Text;
 pub use strings::string;
 pub use walk::payload;

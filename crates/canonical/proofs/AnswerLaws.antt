@@ -1,0 +1,53 @@
+-- Laws of the sorter's answer, one for each way through `sort`.
+-- Assumes nothing.
+use Prim.Native.Nat.{ℕ, _≤_, _<_}
+use mathlib.Core.Path.{_≡_, refl, sym, ap, _∙_}
+use mathlib.Core.List.{List}
+use borrow.Author.Tests.{le-leb, lt-leb}
+use native.Mathlib.Omega.{arith}
+use lib.ListN.{length}
+use Rattle.octets.specs.Put.{Wrote}
+use Rattle.octets.proofs.writing.PutLaws.{wrote-front}
+use Rattle.bencode.specs.declared.fault.Fault.{Fault}
+use Rattle.bencode.specs.declared.fault.Walk.{Walk}
+use Rattle.bencode.specs.declared.profile.Profile.{Profile}
+use Rattle.bencode.specs.Fault.{fault}
+use Rattle.bencode.specs.Walk.{payloadAt}
+use Rattle.bencode.proofs.Judgement.{walked-whole}
+use Rattle.canonical.specs.declared.sorter.Sorted.{Sorted}
+use Rattle.canonical.specs.Answer.{largestPayload, sortAnswer, lentAfter}
+use Rattle.canonical.specs.SortWalk.{sortedPayload}
+use Rattle.canonical.proofs.Sorting.{sorted-length, accepted-means}
+
+-- a refusal is the answer, and leaves the lent bytes as they were
+pub refusal-leaves : (bytes before : List ℕ) (r answer : Sorted) (f : Fault) → r ≡ Sorted.Fault f → Sorted.Fault f ≡ answer → (r ≡ answer) × (before ≡ lentAfter bytes before r)
+refusal-leaves bytes before r answer f e h = (e ∙ h, sym (ap (lentAfter bytes before) e))
+
+module _ (room : ℕ) (s : List ℕ) where
+  pub answer-long : largestPayload < length s → Sorted.Fault (fault 4 0) ≡ sortAnswer room s
+  unfolding sortAnswer
+  answer-long h = rw (lt-leb (length s) largestPayload h) refl
+
+  module _ (h : length s ≤ largestPayload) where
+    pub answer-fault : (f : Fault) → payloadAt Profile.Loose s ≡ Walk.Fault f → Sorted.Fault f ≡ sortAnswer room s
+    unfolding sortAnswer
+    answer-fault f e = rw (le-leb (length s) largestPayload h, e) refl
+
+    module _ (end : ℕ) (e : payloadAt Profile.Loose s ≡ Walk.End end) where
+      pub answer-no-room : room < length s → Sorted.Fault (fault 44 0) ≡ sortAnswer room s
+      unfolding sortAnswer
+      answer-no-room l = rw (le-leb (length s) largestPayload h, e, lt-leb (length s) room l) refl
+
+      pub answer-count : length s ≤ room → Sorted.Count (length s) ≡ sortAnswer room s
+      unfolding sortAnswer
+      answer-count l = rw (le-leb (length s) largestPayload h, e, le-leb (length s) room l) refl
+
+      -- what is to be written is as long as the payload
+      pub as-long : length (sortedPayload s) ≡ length s
+      as-long = let m = accepted-means Profile.Loose s (walked-whole Profile.Loose s end e) in sorted-length s (m .0) (m .1)
+
+      -- it is written
+      pub written-leaves : (before after : List ℕ) (count : ℕ) → length before ≡ room → length s ≤ room → Wrote before 0 (sortedPayload s) after count → (Sorted.Count count ≡ sortAnswer room s) × (after ≡ lentAfter (sortedPayload s) before (Sorted.Count count))
+      written-leaves before after count k l w =
+          let n : count ≡ length s = omega (arith, w .ended, as-long) in
+          (ap Sorted.Count n ∙ answer-count l, wrote-front (omega (arith, as-long)) w)

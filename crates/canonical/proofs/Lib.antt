@@ -1,0 +1,4 @@
+pub mod values
+pub mod walks
+pub mod Sorting
+pub mod AnswerLaws
