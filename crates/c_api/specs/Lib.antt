@@ -1,3 +1,4 @@
 pub mod Written
 pub mod Offered
 pub mod Walk
+pub mod Sort

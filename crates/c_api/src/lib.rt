@@ -1,8 +1,9 @@
-// The readers, the writers and the walk of a payload for C (include/bogsilver.h) and Rust (include/bogsilver.rs).
+// The readers, the writers, the walk and the sorter of payloads for C (include/bogsilver.h) and Rust (include/bogsilver.rs).
 // Every function takes any bytes and numbers and answers in numbers: document 01's codes, and 0 for what is not named.
 mod handshake;
 mod offered;
 mod read;
+mod sort;
 mod walk;
 mod write;
 mod written;

@@ -1,4 +1,7 @@
 pub mod values
 pub mod walks
+pub mod SameValues
 pub mod Sorting
 pub mod AnswerLaws
+pub mod Tried
+pub mod Worthless

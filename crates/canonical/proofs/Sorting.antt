@@ -8,16 +8,19 @@ use lib.ListN.{length}
 use Rattle.octets.specs.Bytes.{Begins}
 use Rattle.bencode.specs.declared.profile.Profile.{Profile}
 use Rattle.bencode.specs.Depth.{largestDepth}
+use Rattle.bencode.specs.Fault.{codeOf}
 use Rattle.bencode.specs.Judge.{Means}
 use Rattle.bencode.specs.Value.{Value, encode}
+use Rattle.bencode.specs.Walk.{payloadCode}
 use Rattle.bencode.proofs.Grammar.{accepts-exactly}
 use Rattle.bencode.proofs.OneValue.{one-value}
-use Rattle.bencode.proofs.Judgement.{means-walked}
+use Rattle.bencode.proofs.Judgement.{means-one, means-walked}
+use Rattle.bencode.proofs.StrictIsLoose.{strict-is-loose}
 use Rattle.canonical.specs.Order.{sorted}
 use Rattle.canonical.specs.SortWalk.{sortedPayload}
 use Rattle.canonical.specs.Demands.{Accepted, SortsPayload, SortsToOne, SortedIsStrictFor, SortedIsStrict, StrictStays, SortsOnce, OneSorter}
 use Rattle.canonical.proofs.values.SameLaws.{alike-same, same-alike}
-use Rattle.canonical.proofs.values.Strictly.{strict-is-loose, strict-stays, sorted-strict, sorted-twice}
+use Rattle.canonical.proofs.values.Strictly.{strict-stays, sorted-strict, sorted-twice}
 use Rattle.canonical.proofs.values.Lengths.{length-sorted}
 use Rattle.canonical.proofs.walks.SortWalks.{sorts-at}
 
@@ -34,6 +37,17 @@ sorted-length s v m = ap length (sorts-payload s v m) ∙ length-sorted v ∙ sy
 -- what an accepted payload means
 pub accepted-means : (p : Profile) (s : List ℕ) → Accepted p s → (v : Value) × Means p s v
 accepted-means p s e = let r = accepts-exactly p s .0 e in (r .0, (r .1, r .2))
+
+-- what the strict profile accepts, the loose one accepts
+strict-loose : (s : List ℕ) → Accepted Profile.Strict s → Accepted Profile.Loose s
+unfolding payloadCode
+strict-loose s e = sym (strict-is-loose s (λ q. let z : _≡_ {A = ℕ} 0 11 = sym (ap codeOf e) ∙ q in omega arith)) ∙ e
+
+-- and means the same by it
+strict-means : (s : List ℕ) (v : Value) → Means Profile.Strict s v → Means Profile.Loose s v
+strict-means s v m =
+    let r = accepted-means Profile.Loose s (strict-loose s (means-walked Profile.Strict s v m)) in
+    subst (λ (w : Value). Means Profile.Loose s w) (means-one Profile.Loose Profile.Strict s (r .0) v (r .1) m) (r .1)
 
 pub sorts-to-one : SortsToOne
 sorts-to-one s t v w m n =
@@ -52,7 +66,7 @@ pub strict-stays-payload : StrictStays
 strict-stays-payload s e =
     let r = accepted-means Profile.Strict s e in
     let v = r .0 in
-    sorts-payload s v (strict-is-loose largestDepth v (r .1 .0), r .1 .1) ∙ ap encode (strict-stays largestDepth v (r .1 .0)) ∙ sym (r .1 .1)
+    sorts-payload s v (strict-means s v (r .1)) ∙ ap encode (strict-stays largestDepth v (r .1 .0)) ∙ sym (r .1 .1)
 
 pub sorts-once : SortsOnce
 sorts-once s e =
@@ -67,5 +81,5 @@ one-sorter sort h s e =
     let w = o .2 in
     let strict = o .3 .0 in
     o .3 .1
-    ∙ ap encode (sym (strict-stays largestDepth w strict) ∙ sym (same-alike largestDepth v w (r .1 .0) (strict-is-loose largestDepth w strict) (o .4)))
+    ∙ ap encode (sym (strict-stays largestDepth w strict) ∙ sym (same-alike largestDepth v w (r .1 .0) (strict-means (sort s) w (o .3) .0) (o .4)))
     ∙ sym (sorts-payload s v (r .1))

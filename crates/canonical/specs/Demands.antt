@@ -4,12 +4,14 @@
 use Prim.Native.Nat.{ℕ}
 use mathlib.Core.Path.{_≡_}
 use mathlib.Core.Logic.{_↔_}
+use mathlib.Core.Bool.{false}
 use mathlib.Core.List.{List}
 use lib.ListN.{length}
 use Rattle.bencode.specs.declared.fault.Walk.{Walk}
 use Rattle.bencode.specs.declared.profile.Profile.{Profile}
 use Rattle.bencode.specs.Judge.{Means}
-use Rattle.bencode.specs.Value.{Value, encode}
+use Rattle.octets.specs.Bytes.{same}
+use Rattle.bencode.specs.Value.{Value, list, dictionary, no-value, value, Entries, entry, encode, WellFormed}
 use Rattle.bencode.specs.Walk.{payloadAt}
 use Rattle.canonical.specs.Order.{sorted}
 use Rattle.canonical.specs.Same.{SameValue}
@@ -49,3 +51,18 @@ SortsOnce = (s : List ℕ) → Accepted Profile.Loose s → sortedPayload (sorte
 -- what `SortedIsStrict` says leaves no choice: any build of which it holds writes the same bytes
 abbrev pub OneSorter : Type 0
 OneSorter = (sort : List ℕ → List ℕ) → SortedIsStrictFor sort → (s : List ℕ) → Accepted Profile.Loose s → sort s ≡ sortedPayload s
+
+-- ---- what it is to mean the same
+-- every value means the same as itself; of well-formed ones, what means the same does so both ways, and as a third does
+pub record SameIsEquivalence : Type 0 where
+  pub self : (v : Value) → SameValue v v
+  pub turned : (levels : ℕ) (v w : Value) → WellFormed Profile.Loose levels v → WellFormed Profile.Loose levels w → SameValue v w → SameValue w v
+  pub joined : (levels : ℕ) (u v w : Value) → WellFormed Profile.Loose levels u → WellFormed Profile.Loose levels v → WellFormed Profile.Loose levels w → SameValue u v → SameValue v w → SameValue u w
+
+-- entries with different keys may be exchanged
+abbrev pub EntriesExchange : Type 0
+EntriesExchange = (j k : List ℕ) (v w : Value) (es : Entries) → same j k ≡ false → SameValue (dictionary (entry j v (entry k w es))) (dictionary (entry k w (entry j v es)))
+
+-- items of a list may not, but where they mean the same
+abbrev pub ItemsStay : Type 0
+ItemsStay = (v w : Value) → SameValue (list (value v (value w no-value))) (list (value w (value v no-value))) → SameValue v w

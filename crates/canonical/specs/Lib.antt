@@ -4,3 +4,5 @@ pub mod Answer
 pub mod Select
 pub mod SortWalk
 pub mod Demands
+pub mod Tries
+pub mod Worthless

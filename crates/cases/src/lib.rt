@@ -94,3 +94,17 @@ pub fn print(text: &[u8]) {
 pub fn print_number(n: u64) {
     io::print_decimal(STDOUT_FILENO, n);
 }
+
+fn print_byte(b: u8) {
+    let digits = b"0123456789abcdef";
+    print(&[digits[(b / 16) as usize], digits[(b % 16) as usize]]);
+}
+
+// Prints bytes in lower case hex digits.
+pub fn print_bytes(s: &[u8]) {
+    let mut i = 0;
+    while i < s.len() {
+        print_byte(s[i]);
+        i += 1;
+    }
+}

@@ -2,6 +2,7 @@
 use super::number::integer_at;
 use super::number::number_at;
 use cases::print;
+use cases::print_bytes;
 use cases::print_number;
 use ipc::Given;
 use ipc::Written;
@@ -16,19 +17,6 @@ const MESSAGE_HEAD: usize = 21;
 const HANDSHAKE_BODY: usize = 12;
 
 const AGREED_BODY: usize = 16;
-
-fn print_byte(b: u8) {
-    let digits = b"0123456789abcdef";
-    print(&[digits[(b / 16) as usize], digits[(b % 16) as usize]]);
-}
-
-fn print_bytes(s: &[u8]) {
-    let mut i = 0;
-    while i < s.len() {
-        print_byte(s[i]);
-        i += 1;
-    }
-}
 
 // The line of an answer, the frame at the front of a buffer.
 fn print_written(written: Written, out: &[u8]) {

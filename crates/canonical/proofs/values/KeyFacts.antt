@@ -1,4 +1,4 @@
--- What sorting has to know of the key rule, and no more: these five laws are all that a change of `keyFault` touches here.
+-- What sorting has to know of the key rule, and no more: these four laws are all that a change of `keyFault` touches here.
 -- A key that may stand alone is one that the loose profile allows with no key before it.
 -- Assumes nothing.
 use Prim.Native.Nat.{ℕ}
@@ -51,15 +51,6 @@ module _ (keys : List (List ℕ)) (key : List ℕ) where
       go : (w : Bool) → _≡_ {A = ℕ} (cond w 0 10) 0 → (t : Bool) → t ≡ false → (u : Bool) → u ≡ true → _≡_ {A = ℕ} (cond w (cond t 8 (cond u 0 11)) 10) 0
       go true o t p u q = rw (p, q) refl
       go false o t p u q = absurd (omega arith)
-
-  pub strict-loose : keyFault Profile.Strict keys key ≡ 0 → keyFault Profile.Loose keys key ≡ 0
-  unfolding keyFault
-  strict-loose e = go (isText key) (isUsed key keys) (isAbove key keys) e
-    where
-      go : (w t u : Bool) → _≡_ {A = ℕ} (cond w (cond t 8 (cond u 0 11)) 10) 0 → _≡_ {A = ℕ} (cond w (cond t 8 0) 10) 0
-      go true true u e = absurd (omega arith)
-      go true false u e = refl
-      go false t u e = absurd (omega arith)
 
 -- both halves of a conjunction
 pub both-true : (t u : Bool) → t && u ≡ true → (t ≡ true) × (u ≡ true)

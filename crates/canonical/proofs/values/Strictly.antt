@@ -10,29 +10,9 @@ use Rattle.bencode.specs.Key.{isAbove}
 use Rattle.bencode.specs.Value.{Value, integer, string, list, dictionary, Values, no-value, value, Entries, no-entry, entry, All, AllEntries, WellFormed}
 use Rattle.octets.proofs.sequences.Order.{less-asym}
 use Rattle.canonical.specs.Order.{insert, sorted, sortedAll, sortedEntries}
-use Rattle.canonical.proofs.values.KeyFacts.{Alone, loose-alone, strict-above, above-strict, strict-loose, both-true}
+use Rattle.canonical.proofs.values.KeyFacts.{Alone, loose-alone, strict-above, above-strict, both-true}
 use Rattle.canonical.proofs.values.Inserts.{Above, Rising, Each, each-insert}
 use Rattle.canonical.proofs.values.SameLaws.{sorted-rises}
-
--- ---- the strict profile allows no more than the loose one
-module _ (strict loose : Value → Type 0) (weaker : (v : Value) → strict v → loose v) where
-  all-loose : (vs : Values) → All strict vs → All loose vs
-  all-loose no-value a = tt
-  all-loose (value v vs) a = (weaker v (a .0), all-loose vs (a .1))
-
-  entries-loose : (keys : List (List ℕ)) (es : Entries) → AllEntries Profile.Strict strict keys es → AllEntries Profile.Loose loose keys es
-  entries-loose keys no-entry a = tt
-  entries-loose keys (entry k v es) a = (strict-loose keys k (a .0), weaker v (a .1), entries-loose (k ∷ keys) es (a .2))
-
-pub strict-is-loose : (levels : ℕ) (v : Value) → WellFormed Profile.Strict levels v → WellFormed Profile.Loose levels v
-strict-is-loose zero (integer z) a = a
-strict-is-loose zero (string t) a = tt
-strict-is-loose zero (list vs) a = absurd a
-strict-is-loose zero (dictionary es) a = absurd a
-strict-is-loose (suc levels) (integer z) a = a
-strict-is-loose (suc levels) (string t) a = tt
-strict-is-loose (suc levels) (list vs) a = all-loose (λ v. WellFormed Profile.Strict levels v) (λ v. WellFormed Profile.Loose levels v) (λ v b. strict-is-loose levels v b) vs a
-strict-is-loose (suc levels) (dictionary es) a = entries-loose (λ v. WellFormed Profile.Strict levels v) (λ v. WellFormed Profile.Loose levels v) (λ v b. strict-is-loose levels v b) [] es a
 
 -- ---- what is strict is sorted
 -- a key below the first stays in front

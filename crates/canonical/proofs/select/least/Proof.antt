@@ -47,7 +47,7 @@ preferred-requires c κs =
     let k = c .before .start .given in
     let text = sym (c .before .before .before .string .ensures) ∙ k .1 in
     let w = string-whole-inv s (l .at) (k .0 .0) (k .0 .1 .0) text in
-    (w .ordered, w .within, c .before .before .before .before .before .before .pre, l .inv .1)
+    (omega (arith, w .starts, w .ordered), w .within, c .before .before .before .before .before .before .pre, l .inv .1)
 
 skip-value-requires : tie.Need-skip-value-requires Inv-loop μ-loop
 skip-value-requires c κs = tt

@@ -1,10 +1,10 @@
--- `frame_cases::written::print_bytes` is safe and ends.
+-- `cases::print_bytes` is safe and ends.
 -- Assumes nothing.
 use Prim.Native.Nat.{_-_}
 use lib.ListN.{length}
 use borrow.Author.Needs.{needs}
-use Rattle.frame_cases.proofs.written.print_bytes.Statement.{statement}
-use Rattle.frame_cases.proofs.written.print_bytes.Tie as tie
+use Rattle.cases.proofs.print_bytes.Statement.{statement}
+use Rattle.cases.proofs.print_bytes.Tie as tie
 
 abbrev Inv-loop : tie.InvT-loop
 Inv-loop s i₀ i = Unit
