@@ -6,10 +6,10 @@ use Rattle.payload_cases.proofs.main.Statement.{statement}
 use Rattle.payload_cases.proofs.main.Tie as tie
 
 abbrev Inv-loop : tie.InvT-loop
-Inv-loop body₀ counter₀ body counter = Unit
+Inv-loop body₀ out₀ counter₀ body out counter = Unit
 
 abbrev μ-loop : tie.MeasureT-loop
-μ-loop body₀ counter₀ body counter = 4000000000 - counter
+μ-loop body₀ out₀ counter₀ body out counter = 4000000000 - counter
 
 pub main-spec : {M : Type 1} → statement M
 main-spec =
@@ -17,6 +17,7 @@ main-spec =
     (tie.spec
     Inv-loop
     μ-loop
+    (λ c. search needs)
     (λ c. search needs)
     (λ c. search needs)
     (λ c κs. search needs)
