@@ -2,6 +2,7 @@
 -- Assumes nothing.
 use Prim.Native.Nat.{ℕ, _≤_, _<_}
 use mathlib.Core.Path.{_≡_, refl, sym, ap, _∙_}
+use mathlib.Core.Logic.{_⊎_, inl, inr, ⊎-elim}
 use mathlib.Core.List.{List}
 use borrow.Author.Tests.{le-leb, lt-leb}
 use native.Mathlib.Omega.{arith}
@@ -12,12 +13,16 @@ use Rattle.bencode.specs.declared.fault.Fault.{Fault}
 use Rattle.bencode.specs.declared.fault.Walk.{Walk}
 use Rattle.bencode.specs.declared.profile.Profile.{Profile}
 use Rattle.bencode.specs.Fault.{fault}
+use Rattle.bencode.specs.Judge.{Means, Walked}
+use Rattle.bencode.specs.Value.{Value, encode}
 use Rattle.bencode.specs.Walk.{payloadAt}
+use Rattle.octets.proofs.digits.DigitLaws.{lt-or-le}
 use Rattle.bencode.proofs.Judgement.{walked-whole}
 use Rattle.canonical.specs.declared.sorter.Sorted.{Sorted}
 use Rattle.canonical.specs.Answer.{largestPayload, sortAnswer, lentAfter}
 use Rattle.canonical.specs.SortWalk.{sortedPayload}
-use Rattle.canonical.proofs.Sorting.{sorted-length, accepted-means}
+use Rattle.canonical.specs.Demands.{wrote, refused, sortedInto, outcomeOf, SortsJudged}
+use Rattle.canonical.proofs.Sorting.{sorts-payload, sorted-length, accepted-means}
 
 -- a refusal is the answer, and leaves the lent bytes as they were
 pub refusal-leaves : (bytes before : List ℕ) (r answer : Sorted) (f : Fault) → r ≡ Sorted.Fault f → Sorted.Fault f ≡ answer → (r ≡ answer) × (before ≡ lentAfter bytes before r)
@@ -51,3 +56,25 @@ module _ (room : ℕ) (s : List ℕ) where
       written-leaves before after count k l w =
           let n : count ≡ length s = omega (arith, w .ended, as-long) in
           (ap Sorted.Count n ∙ answer-count l, wrote-front (omega (arith, as-long)) w)
+
+-- the whole answer by the grammar
+pub sorts-judged : SortsJudged
+sorts-judged room s =
+    record {
+      long = λ h. sym (ap (outcomeOf (sortedPayload s)) (answer-long room s h));
+      short = λ h. walked (payloadAt Profile.Loose s) refl h;
+    }
+  where
+    counted : (v : Value) → Means Profile.Loose s v → length s ≤ largestPayload → (end : ℕ) → payloadAt Profile.Loose s ≡ Walk.End end → (length s ≤ room) ⊎ (room < length s) → outcomeOf (sortedPayload s) (sortAnswer room s) ≡ sortedInto room v
+    counted v m h end e (inl l) =
+        sym (ap (outcomeOf (sortedPayload s)) (answer-count room s h end e l)) ∙ ap wrote (sorts-payload s v m)
+        ∙ sym (rw (le-leb (length (encode v)) room (omega (arith, ap length (m .1), l))) refl)
+    counted v m h end e (inr l) =
+        sym (ap (outcomeOf (sortedPayload s)) (answer-no-room room s h end e l))
+        ∙ sym (rw (lt-leb (length (encode v)) room (omega (arith, ap length (m .1), l))) refl)
+
+    walked : (w : Walk) → payloadAt Profile.Loose s ≡ w → length s ≤ largestPayload → Walked Profile.Loose largestPayload 4 refused (sortedInto room) s w (outcomeOf (sortedPayload s) (sortAnswer room s))
+    walked (Walk.Fault f) e h = sym (ap (outcomeOf (sortedPayload s)) (answer-fault room s h f e))
+    walked (Walk.End end) e h =
+        let m = accepted-means Profile.Loose s (walked-whole Profile.Loose s end e) in
+        (m .0, m .1, counted (m .0) (m .1) h end e (⊎-elim inr inl (lt-or-le room (length s))))

@@ -4,15 +4,18 @@
 use Prim.Native.Nat.{ℕ}
 use mathlib.Core.Path.{_≡_}
 use mathlib.Core.Logic.{_↔_}
-use mathlib.Core.Bool.{false}
+use mathlib.Core.Bool.{false, cond}
 use mathlib.Core.List.{List}
+use lib.Dec.{leb}
 use lib.ListN.{length}
 use Rattle.bencode.specs.declared.fault.Walk.{Walk}
 use Rattle.bencode.specs.declared.profile.Profile.{Profile}
-use Rattle.bencode.specs.Judge.{Means}
+use Rattle.bencode.specs.Judge.{Means, Judged}
 use Rattle.octets.specs.Bytes.{same}
 use Rattle.bencode.specs.Value.{Value, list, dictionary, no-value, value, Entries, entry, encode, WellFormed}
 use Rattle.bencode.specs.Walk.{payloadAt}
+use Rattle.canonical.specs.declared.sorter.Sorted.{Sorted}
+use Rattle.canonical.specs.Answer.{largestPayload, sortAnswer}
 use Rattle.canonical.specs.Order.{sorted}
 use Rattle.canonical.specs.Same.{SameValue}
 use Rattle.canonical.specs.SortWalk.{sortedPayload}
@@ -21,6 +24,26 @@ use Rattle.canonical.specs.SortWalk.{sortedPayload}
 abbrev pub Accepted : Profile → List ℕ → Type 0
 Accepted p s = payloadAt p s ≡ Walk.End (length s)
 
+-- ---- the answer
+-- what comes out: bytes, or a refusal by code and offset
+pub data Outcome : Type 0 where
+  wrote : List ℕ → Outcome
+  refused : ℕ → ℕ → Outcome
+
+-- what a value comes to where so many bytes are lent: 44 where its encoding has more
+abbrev pub sortedInto : ℕ → Value → Outcome
+sortedInto room v = cond (leb (length (encode v)) room) (wrote (encode (sorted v))) (refused 44 0)
+
+-- what an answer says, where some bytes were to be written
+abbrev pub outcomeOf : List ℕ → Sorted → Outcome
+outcomeOf bytes (Sorted.Count n) = wrote bytes
+outcomeOf bytes (Sorted.Fault f) = refused (f .code) (f .offset)
+
+-- the answer by the grammar: 4 over the limit, then the loose walk's fault, then what the value comes to
+abbrev pub SortsJudged : Type 0
+SortsJudged = (room : ℕ) (s : List ℕ) → Judged Profile.Loose largestPayload 4 refused (sortedInto room) s (outcomeOf (sortedPayload s) (sortAnswer room s))
+
+-- ---- what is written
 -- an accepted payload is written as the encoding of its value with its dictionaries sorted at every level
 abbrev pub SortsPayload : Type 0
 SortsPayload = (s : List ℕ) (v : Value) → Means Profile.Loose s v → sortedPayload s ≡ encode (sorted v)
