@@ -24,7 +24,7 @@ impl Sorted {
     pub const OVER_LIMIT: u8 = 4;
     // Fewer bytes are lent than the payload has.
     pub const NO_ROOM: u8 = 44;
-    // How many lists and dictionaries stand in each other at most.
+    // How many lists and dictionaries stand in each other at most: what `Depth` of bencode allows.
     pub const LEVELS: usize = 16;
 }
 
