@@ -106,6 +106,24 @@ pub fn rising(size: usize) -> Vec<u8> {
     fill(size, "d", "e", |i| entry(i, "i1e"))
 }
 
+/// A dictionary inside fifteen others, which have no other entry.
+fn inside(dictionary: Vec<u8>) -> Vec<u8> {
+    [b"d1:k".repeat(15), dictionary, b"e".repeat(15)].concat()
+}
+
+/// The bytes about the innermost one.
+const ABOUT: usize = 15 * 5;
+
+/// Sixteen dictionaries in each other, the innermost with all the keys, which rise.
+pub fn inside_rising(size: usize) -> Vec<u8> {
+    inside(rising(size - ABOUT))
+}
+
+/// The same with falling keys.
+pub fn inside_falling(size: usize) -> Vec<u8> {
+    inside(falling(size - ABOUT, "0:"))
+}
+
 /// A dictionary with falling keys, and `value` for each.
 fn falling(size: usize, value: &str) -> Vec<u8> {
     fill(size, "d", "e", |i| entry(KEYS - 1 - i, value))

@@ -9,12 +9,13 @@ use crate::{frame_shapes, shapes, sorter};
 type Shape = fn(usize) -> Vec<u8>;
 
 /// Payloads whose keys rise, which come out as they are.
-const SORTED: [(&str, Shape); 5] = [
+const SORTED: [(&str, Shape); 6] = [
     ("list of integers", shapes::integers),
     ("list of strings", shapes::strings),
     ("info list, keys sorted", shapes::info),
     ("dictionary, keys rising", shapes::rising),
     ("16 dictionaries nested, rising", shapes::nested_rising),
+    ("rising in the 16th dictionary", shapes::inside_rising),
 ];
 
 /// Lists of small dictionaries whose keys do not rise.
@@ -36,6 +37,10 @@ pub fn run() {
     for (name, payload) in shapes::worst(32 * 1024) {
         line(name, &payload);
     }
+    line(
+        "falling in the 16th dictionary",
+        &shapes::inside_falling(32 * 1024),
+    );
 }
 
 fn line(name: &str, payload: &[u8]) {
