@@ -39,10 +39,6 @@ combine-none : (r : Next) → combine r none ≡ r
 combine-none none = refl
 combine-none (next k v) = refl
 
-better-combine : (r : Next) (k : List ℕ) (v : Value) → better r k v ≡ combine r (next k v)
-better-combine none k v = refl
-better-combine (next j w) k v = refl
-
 -- not below one that is not below another
 not-less : (i k j : List ℕ) → less k i ≡ false → less j k ≡ false → less j i ≡ false
 not-less i k j a b = go (less j i) refl (less k j) refl
