@@ -11,7 +11,7 @@ use Rattle.octets.specs.Bytes.{same, less}
 use Rattle.bencode.specs.declared.profile.Profile.{Profile}
 use Rattle.bencode.specs.Utf8.{Utf8Text, isText}
 use Rattle.bencode.specs.Key.{isUsed, isAbove, orderFault, comparedFault, keyFault}
-use Rattle.bencode.specs.Demands.{KeysOnce, KeysRise, TenForNoText}
+use Rattle.bencode.specs.Demands.{KeysOnce, KeysRise, TenForNoText, EightForRepeated, ElevenForUnsorted}
 use Rattle.bencode.proofs.KeyText.{key-text}
 use Rattle.octets.proofs.sequences.Order.{clash, same-eq}
 use Rattle.bencode.proofs.walking.KeyOrder.{above-unused, used-head, used-tail}
@@ -80,3 +80,34 @@ ten-for-no-text p keys key = (λ e t. there (isText key) (key-text key .1 t) (is
     back : (w : Bool) → isText key ≡ w → (Utf8Text key → ⊥) → cond w (comparedFault p keys key) 10 ≡ 10
     back true x h = absurd (h (key-text key .0 x))
     back false x h = refl
+
+pub eight-for-repeated : EightForRepeated
+unfolding keyFault
+eight-for-repeated p keys key = (λ e. there (isText key) refl (isUsed key keys) refl (isAbove key keys) p e, λ h. rw (key-text key .1 (h .0), member-used key keys (h .1)) refl)
+  where
+    there : (w : Bool) → isText key ≡ w → (t : Bool) → isUsed key keys ≡ t → (u : Bool) (q : Profile) → _≡_ {A = ℕ} (cond w (cond t 8 (orderFault q u)) 10) 8 → Utf8Text key × List·Memᴰ key keys
+    there true x true y u q e = (key-text key .0 x, used-member key keys y)
+    there true x false y u Profile.Loose e = absurd (omega arith)
+    there true x false y true Profile.Strict e = absurd (omega arith)
+    there true x false y false Profile.Strict e = absurd (omega arith)
+    there false x t y u q e = absurd (omega arith)
+
+pub eleven-for-unsorted : ElevenForUnsorted
+unfolding keyFault
+eleven-for-unsorted p keys key = (λ e. there (isText key) refl (isUsed key keys) refl (isAbove key keys) refl p e, λ h. back p (h .0) (isText key) (key-text key .1 (h .1)) (isUsed key keys) refl (h .2) (isAbove key keys) refl (h .3))
+  where
+    there : (w : Bool) → isText key ≡ w → (t : Bool) → isUsed key keys ≡ t → (u : Bool) → isAbove key keys ≡ u → (q : Profile) → _≡_ {A = ℕ} (cond w (cond t 8 (orderFault q u)) 10) 11
+        → (q ≡ Profile.Strict) × Utf8Text key × (List·Memᴰ key keys → ⊥) × (((k : List ℕ) → List·Memᴰ k keys → less k key ≡ true) → ⊥)
+    there true x true y u z q e = absurd (omega arith)
+    there true x false y u z Profile.Loose e = absurd (omega arith)
+    there true x false y true z Profile.Strict e = absurd (omega arith)
+    there true x false y false z Profile.Strict e =
+        (refl, key-text key .0 x, λ m. clash (isUsed key keys) (member-used key keys m) y, λ h. clash (isAbove key keys) (every-above key keys h) z)
+    there false x t y u z q e = absurd (omega arith)
+
+    back : (q : Profile) → q ≡ Profile.Strict → (w : Bool) → w ≡ true → (t : Bool) → isUsed key keys ≡ t → (List·Memᴰ key keys → ⊥) → (u : Bool) → isAbove key keys ≡ u → (((k : List ℕ) → List·Memᴰ k keys → less k key ≡ true) → ⊥)
+        → _≡_ {A = ℕ} (cond w (cond t 8 (orderFault q u)) 10) 11
+    back q i false x t y a u z b = clash false x refl
+    back q i true x true y a u z b = absurd (a (used-member key keys y))
+    back q i true x false y a true z b = absurd (b (above-every key keys z))
+    back q i true x false y a false z b = ap (λ (r : Profile). orderFault r false) i

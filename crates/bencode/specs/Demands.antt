@@ -56,6 +56,16 @@ KeysRise = (keys : List (List ℕ)) (key : List ℕ) → (keyFault Profile.Stric
 abbrev pub TenForNoText : Type 0
 TenForNoText = (p : Profile) (keys : List (List ℕ)) (key : List ℕ) → (keyFault p keys key ≡ 10) ↔ (Utf8Text key → ⊥)
 
+-- 8 is given to a key exactly where it is a text that is among the earlier ones, whatever the profile
+abbrev pub EightForRepeated : Type 0
+EightForRepeated = (p : Profile) (keys : List (List ℕ)) (key : List ℕ) → (keyFault p keys key ≡ 8) ↔ (Utf8Text key × List·Memᴰ key keys)
+
+-- request 06: 11 is given to a key exactly where the profile is strict and it is a text that is not among the earlier ones and not
+-- above all of them; so it comes after 10 and 8
+abbrev pub ElevenForUnsorted : Type 0
+ElevenForUnsorted = (p : Profile) (keys : List (List ℕ)) (key : List ℕ)
+    → (keyFault p keys key ≡ 11) ↔ ((p ≡ Profile.Strict) × Utf8Text key × (List·Memᴰ key keys → ⊥) × (((k : List ℕ) → List·Memᴰ k keys → less k key ≡ true) → ⊥))
+
 -- a payload's fault has a code of its profile, which is never 0
 abbrev pub FaultsCoded : Type 0
 FaultsCoded = (p : Profile) (s : List ℕ) (f : Fault) → payloadAt p s ≡ Walk.Fault f → isFaultCode p (f .code) ≡ true

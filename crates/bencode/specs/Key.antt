@@ -1,6 +1,6 @@
--- Which keys are allowed is pinned by `KeysOnce` and `KeysRise`, 10 by `TenForNoText`; the other codes and `isFaultCode` are to be
--- believed. The key rule: which keys may follow which in a dictionary (document 01, 'The frame': in any order, and no key twice;
--- document 02, request 03: keys are text; request 06: the strict profile).
+-- Which keys are allowed is pinned by `KeysOnce` and `KeysRise`, 10 by `TenForNoText`, 8 by `EightForRepeated`, 11 by
+-- `ElevenForUnsorted`; `isFaultCode` is to be believed. The key rule: which keys may follow which in a dictionary (document 01,
+-- 'The frame': in any order, and no key twice; document 02, request 03: keys are text; request 06: the strict profile).
 -- Assumes nothing.
 use Prim.Native.Nat.{ℕ}
 use mathlib.Core.Bool.{Bool, true, false, cond, _&&_, _||_}

@@ -1,5 +1,5 @@
 // The readers, the writers, the walk and the sorter of payloads for C (include/bogsilver.h) and Rust (include/bogsilver.rs).
-// Every function takes any bytes and numbers and answers in numbers: document 01's codes, and 0 for what is not named.
+// Every function takes any bytes and numbers and answers in numbers: the documents' codes, and 0 for what is not named.
 mod handshake;
 mod offered;
 mod read;

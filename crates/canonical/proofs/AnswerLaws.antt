@@ -1,7 +1,7 @@
 -- Laws of the sorter's answer, one for each way through `sort`.
 -- Assumes nothing.
 use Prim.Native.Nat.{ℕ, _≤_, _<_}
-use mathlib.Core.Path.{_≡_, refl, sym, ap, _∙_}
+use mathlib.Core.Path.{_≡_, refl, sym, ap, ap₂, _∙_}
 use mathlib.Core.Logic.{_⊎_, inl, inr, ⊎-elim}
 use mathlib.Core.List.{List}
 use borrow.Author.Tests.{le-leb, lt-leb}
@@ -19,14 +19,17 @@ use Rattle.bencode.specs.Walk.{payloadAt}
 use Rattle.octets.proofs.digits.DigitLaws.{lt-or-le}
 use Rattle.bencode.proofs.Judgement.{walked-whole}
 use Rattle.canonical.specs.declared.sorter.Sorted.{Sorted}
-use Rattle.canonical.specs.Answer.{largestPayload, sortAnswer, lentAfter}
+use Rattle.canonical.specs.Answer.{largestPayload, sortAnswer, lentAfter, sortCode, sortOffset, sortCount, SortLeaves}
 use Rattle.canonical.specs.SortWalk.{sortedPayload}
-use Rattle.canonical.specs.Demands.{wrote, refused, sortedInto, outcomeOf, SortsJudged}
+use Rattle.canonical.specs.Demands.{written, refused, sortedInto, outcomeOf, SortsJudged}
 use Rattle.canonical.proofs.Sorting.{sorts-payload, sorted-length, accepted-means}
 
+leaves : (bytes before : List ℕ) (r answer : Sorted) (after : List ℕ) → r ≡ answer → after ≡ lentAfter bytes before answer → SortLeaves answer bytes before r after
+leaves bytes before r answer after e b = record { answered = e; code = ap sortCode e; offset = ap sortOffset e; count = ap sortCount e; buffer = b }
+
 -- a refusal is the answer, and leaves the lent bytes as they were
-pub refusal-leaves : (bytes before : List ℕ) (r answer : Sorted) (f : Fault) → r ≡ Sorted.Fault f → Sorted.Fault f ≡ answer → (r ≡ answer) × (before ≡ lentAfter bytes before r)
-refusal-leaves bytes before r answer f e h = (e ∙ h, sym (ap (lentAfter bytes before) e))
+pub refusal-leaves : (bytes before : List ℕ) (r answer : Sorted) (f : Fault) → r ≡ Sorted.Fault f → Sorted.Fault f ≡ answer → SortLeaves answer bytes before r before
+refusal-leaves bytes before r answer f e h = leaves bytes before r answer before (e ∙ h) (ap (lentAfter bytes before) h)
 
 module _ (room : ℕ) (s : List ℕ) where
   pub answer-long : largestPayload < length s → Sorted.Fault (fault 4 0) ≡ sortAnswer room s
@@ -52,10 +55,11 @@ module _ (room : ℕ) (s : List ℕ) where
       as-long = let m = accepted-means Profile.Loose s (walked-whole Profile.Loose s end e) in sorted-length s (m .0) (m .1)
 
       -- it is written
-      pub written-leaves : (before after : List ℕ) (count : ℕ) → length before ≡ room → length s ≤ room → Wrote before 0 (sortedPayload s) after count → (Sorted.Count count ≡ sortAnswer room s) × (after ≡ lentAfter (sortedPayload s) before (Sorted.Count count))
+      pub written-leaves : (before after : List ℕ) (count : ℕ) → length before ≡ room → length s ≤ room → Wrote before 0 (sortedPayload s) after count → SortLeaves (sortAnswer room s) (sortedPayload s) before (Sorted.Count count) after
       written-leaves before after count k l w =
           let n : count ≡ length s = omega (arith, w .ended, as-long) in
-          (ap Sorted.Count n ∙ answer-count l, wrote-front (omega (arith, as-long)) w)
+          leaves (sortedPayload s) before (Sorted.Count count) (sortAnswer room s) after (ap Sorted.Count n ∙ answer-count l)
+          (wrote-front (omega (arith, as-long)) w ∙ ap (lentAfter (sortedPayload s) before) (answer-count l))
 
 -- the whole answer by the grammar
 pub sorts-judged : SortsJudged
@@ -67,7 +71,8 @@ sorts-judged room s =
   where
     counted : (v : Value) → Means Profile.Loose s v → length s ≤ largestPayload → (end : ℕ) → payloadAt Profile.Loose s ≡ Walk.End end → (length s ≤ room) ⊎ (room < length s) → outcomeOf (sortedPayload s) (sortAnswer room s) ≡ sortedInto room v
     counted v m h end e (inl l) =
-        sym (ap (outcomeOf (sortedPayload s)) (answer-count room s h end e l)) ∙ ap wrote (sorts-payload s v m)
+        sym (ap (outcomeOf (sortedPayload s)) (answer-count room s h end e l))
+        ∙ ap₂ written (sym (as-long room s h end e) ∙ ap length (sorts-payload s v m)) (sorts-payload s v m)
         ∙ sym (rw (le-leb (length (encode v)) room (omega (arith, ap length (m .1), l))) refl)
     counted v m h end e (inr l) =
         sym (ap (outcomeOf (sortedPayload s)) (answer-no-room room s h end e l))

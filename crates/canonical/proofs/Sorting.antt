@@ -20,7 +20,7 @@ use Rattle.canonical.specs.Order.{sorted}
 use Rattle.canonical.specs.SortWalk.{sortedPayload}
 use Rattle.canonical.specs.Demands.{Accepted, SortsPayload, SortsToOne, SortedIsStrictFor, SortedIsStrict, StrictStays, SortsOnce, OneSorter}
 use Rattle.canonical.proofs.values.SameLaws.{alike-same, same-alike}
-use Rattle.canonical.proofs.values.Strictly.{strict-stays, sorted-strict, sorted-twice}
+use Rattle.canonical.proofs.values.Strictly.{stays-sorted, sorted-strict, sorted-twice}
 use Rattle.canonical.proofs.values.Lengths.{length-sorted}
 use Rattle.canonical.proofs.walks.SortWalks.{sorts-at}
 
@@ -62,16 +62,16 @@ sorted-is-strict s v m =
     let w : Means Profile.Strict (sortedPayload s) (sorted v) = (sorted-strict largestDepth v (m .0), sorts-payload s v m) in
     (sorted-length s v m, means-walked Profile.Strict (sortedPayload s) (sorted v) w, sorted v, w, alike-same v (sorted v) (sym (sorted-twice largestDepth v (m .0))))
 
-pub strict-stays-payload : StrictStays
-strict-stays-payload s e =
+pub strict-stays : StrictStays
+strict-stays s e =
     let r = accepted-means Profile.Strict s e in
     let v = r .0 in
-    sorts-payload s v (strict-means s v (r .1)) ∙ ap encode (strict-stays largestDepth v (r .1 .0)) ∙ sym (r .1 .1)
+    sorts-payload s v (strict-means s v (r .1)) ∙ ap encode (stays-sorted largestDepth v (r .1 .0)) ∙ sym (r .1 .1)
 
 pub sorts-once : SortsOnce
 sorts-once s e =
     let r = accepted-means Profile.Loose s e in
-    strict-stays-payload (sortedPayload s) (sorted-is-strict s (r .0) (r .1) .1)
+    strict-stays (sortedPayload s) (sorted-is-strict s (r .0) (r .1) .1)
 
 pub one-sorter : OneSorter
 one-sorter sort h s e =
@@ -81,5 +81,5 @@ one-sorter sort h s e =
     let w = o .2 in
     let strict = o .3 .0 in
     o .3 .1
-    ∙ ap encode (sym (strict-stays largestDepth w strict) ∙ sym (same-alike largestDepth v w (r .1 .0) (strict-means (sort s) w (o .3) .0) (o .4)))
+    ∙ ap encode (sym (stays-sorted largestDepth w strict) ∙ sym (same-alike largestDepth v w (r .1 .0) (strict-means (sort s) w (o .3) .0) (o .4)))
     ∙ sym (sorts-payload s v (r .1))

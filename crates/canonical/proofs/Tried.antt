@@ -13,11 +13,11 @@ use Rattle.bencode.specs.Key.{isUsed, isAbove, keyFault}
 use Rattle.bencode.specs.Skip.{skipFrom}
 use Rattle.bencode.specs.Walk.{listFrom, dictionaryFrom, valueAt, payloadAt}
 use Rattle.canonical.specs.Answer.{sortAnswer}
-use Rattle.canonical.specs.SortWalk.{risesAt, leastAt, itemsFrom, selected, entriesAt, sortedAt}
+use Rattle.canonical.specs.SortWalk.{risesAt, leastAt, valuesFrom, selected, entriesAt, sortedAt}
 use Rattle.canonical.specs.Tries.{tries, SortsTried, AnswersTried}
 
 pub sorts-tried : SortsTried
-unfolding tries ascii less numeralAt digits stringAt scalarAt integerAt integerFrom repeat skipFrom risesAt leastAt itemsFrom selected entriesAt sortedAt
+unfolding tries ascii less numeralAt digits stringAt scalarAt integerAt integerFrom repeat skipFrom risesAt leastAt valuesFrom selected entriesAt sortedAt
 sorts-tried = refl
 
 pub answers-tried : AnswersTried

@@ -16,7 +16,7 @@ use Rattle.bencode.specs.Utf8.{textFrom}
 use Rattle.bencode.specs.Key.{isUsed, isAbove, keyFault}
 use Rattle.bencode.specs.Skip.{skipFrom}
 use Rattle.bencode.specs.Walk.{listFrom, dictionaryFrom, valueAt, payloadAt}
-use Rattle.canonical.specs.SortWalk.{risesAt, leastAt, itemsFrom, selected, entriesAt, sortedAt, sortedPayload}
+use Rattle.canonical.specs.SortWalk.{risesAt, leastAt, valuesFrom, selected, entriesAt, sortedAt, sortedPayload}
 use Rattle.canonical.specs.Demands.{Accepted}
 use Rattle.canonical.specs.Worthless.{DifferentFalls, Falls, WrongOrdersFall, CopyFalls, ConstantFalls}
 use Rattle.canonical.proofs.Sorting.{accepted-means, sorts-to-one, one-sorter}
@@ -29,7 +29,7 @@ at-byte : (payload written : String) (i : ℕ) → Accepted Profile.Loose (ascii
 at-byte payload written i a d sort e h = different-falls sort (ascii payload) a (λ q. d (ap (λ (l : List ℕ). byteAt l i) (sym e ∙ q))) h
 
 pub wrong-orders-fall : WrongOrdersFall
-unfolding ascii same less numeralAt digits stringAt scalarAt repeat textFrom isUsed isAbove keyFault listFrom dictionaryFrom valueAt payloadAt skipFrom risesAt leastAt itemsFrom selected entriesAt sortedAt
+unfolding ascii same less numeralAt digits stringAt scalarAt repeat textFrom isUsed isAbove keyFault listFrom dictionaryFrom valueAt payloadAt skipFrom risesAt leastAt valuesFrom selected entriesAt sortedAt
 wrong-orders-fall = (
   at-byte "d2:aa0:1:b0:e" "d1:b0:2:aa0:e" 1 refl (λ q. omega (arith, q)),
   at-byte "d1:ad1:c0:1:b0:ee" "d1:ad1:c0:1:b0:ee" 7 refl (λ q. omega (arith, q)),
@@ -38,7 +38,7 @@ wrong-orders-fall = (
 )
 
 pub copy-falls : CopyFalls
-unfolding ascii same less numeralAt digits stringAt scalarAt repeat textFrom isUsed isAbove keyFault listFrom dictionaryFrom valueAt payloadAt skipFrom risesAt leastAt itemsFrom selected entriesAt sortedAt
+unfolding ascii same less numeralAt digits stringAt scalarAt repeat textFrom isUsed isAbove keyFault listFrom dictionaryFrom valueAt payloadAt skipFrom risesAt leastAt valuesFrom selected entriesAt sortedAt
 copy-falls h =
     let s = ascii "d1:a0:1:b0:e" in
     let t = ascii "d1:b0:1:a0:e" in
@@ -48,7 +48,7 @@ copy-falls h =
     omega (arith, ap (λ (l : List ℕ). byteAt l 3) e)
 
 pub constant-falls : ConstantFalls
-unfolding ascii same less numeralAt digits stringAt scalarAt repeat textFrom isUsed isAbove keyFault listFrom dictionaryFrom valueAt payloadAt skipFrom risesAt leastAt itemsFrom selected entriesAt sortedAt
+unfolding ascii same less numeralAt digits stringAt scalarAt repeat textFrom isUsed isAbove keyFault listFrom dictionaryFrom valueAt payloadAt skipFrom risesAt leastAt valuesFrom selected entriesAt sortedAt
 constant-falls bytes h =
     let s = ascii "le" in
     let t = ascii "de" in

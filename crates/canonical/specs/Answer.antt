@@ -1,6 +1,7 @@
 -- To be believed. The sorter's answer, and the lent bytes after it (document 02, request 06: 4, then 5 to 10, then 44).
 -- Assumes nothing.
 use Prim.Native.Nat.{ℕ}
+use mathlib.Core.Path.{_≡_}
 use mathlib.Core.Bool.{cond}
 use mathlib.Core.List.{List}
 use lib.Dec.{leb}
@@ -29,3 +30,24 @@ sortAnswer room s = cond (leb (length s) largestPayload) (walkedAnswer room s (p
 abbrev pub lentAfter : List ℕ → List ℕ → Sorted → List ℕ
 lentAfter bytes before (Sorted.Count n) = atFront bytes before
 lentAfter bytes before (Sorted.Fault f) = before
+
+-- the code of an answer, the offset of a refusal and the count of the bytes written; 0 for what it does not name
+abbrev pub sortCode : Sorted → ℕ
+sortCode (Sorted.Count n) = 0
+sortCode (Sorted.Fault f) = f .code
+
+abbrev pub sortOffset : Sorted → ℕ
+sortOffset (Sorted.Count n) = 0
+sortOffset (Sorted.Fault f) = f .offset
+
+abbrev pub sortCount : Sorted → ℕ
+sortCount (Sorted.Count n) = n
+sortCount (Sorted.Fault f) = 0
+
+-- what the sorter did: its answer, also as numbers, and the whole buffer
+pub record SortLeaves (answer : Sorted) (bytes before : List ℕ) (r : Sorted) (after : List ℕ) : Type 0 where
+  pub answered : r ≡ answer
+  pub code : sortCode r ≡ sortCode answer
+  pub offset : sortOffset r ≡ sortOffset answer
+  pub count : sortCount r ≡ sortCount answer
+  pub buffer : after ≡ lentAfter bytes before answer

@@ -1,5 +1,6 @@
--- Statements of sorting as a whole (document 02, request 06). Each is a type; its proof stands in proofs/ under the same name in
--- lower case. A name with For is the statement over any build, so that a wrong one can be refuted by it (Worthless).
+-- Statements of sorting as a whole (document 02, request 06); `Accepted`, `Outcome`, `sortedInto` and `outcomeOf` are to be
+-- believed. Each is a type; its proof stands in proofs/ under the same name in lower case. A name with For is the statement over
+-- any build, so that a wrong one can be refuted by it (Worthless).
 -- Assumes nothing.
 use Prim.Native.Nat.{ℕ}
 use mathlib.Core.Path.{_≡_}
@@ -25,18 +26,18 @@ abbrev pub Accepted : Profile → List ℕ → Type 0
 Accepted p s = payloadAt p s ≡ Walk.End (length s)
 
 -- ---- the answer
--- what comes out: bytes, or a refusal by code and offset
+-- what comes out: a count and bytes, or a refusal by code and offset
 pub data Outcome : Type 0 where
-  wrote : List ℕ → Outcome
+  written : ℕ → List ℕ → Outcome
   refused : ℕ → ℕ → Outcome
 
 -- what a value comes to where so many bytes are lent: 44 where its encoding has more
 abbrev pub sortedInto : ℕ → Value → Outcome
-sortedInto room v = cond (leb (length (encode v)) room) (wrote (encode (sorted v))) (refused 44 0)
+sortedInto room v = cond (leb (length (encode v)) room) (written (length (encode (sorted v))) (encode (sorted v))) (refused 44 0)
 
 -- what an answer says, where some bytes were to be written
 abbrev pub outcomeOf : List ℕ → Sorted → Outcome
-outcomeOf bytes (Sorted.Count n) = wrote bytes
+outcomeOf bytes (Sorted.Count n) = written n bytes
 outcomeOf bytes (Sorted.Fault f) = refused (f .code) (f .offset)
 
 -- the answer by the grammar: 4 over the limit, then the loose walk's fault, then what the value comes to

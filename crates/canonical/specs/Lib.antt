@@ -1,7 +1,6 @@
 pub mod Order
 pub mod Same
 pub mod Answer
-pub mod Select
 pub mod SortWalk
 pub mod Demands
 pub mod Tries

@@ -1,5 +1,6 @@
--- Pinned by `SortsAt`; of public functions, `sort` cites `sortedPayload`. How the sorter goes over a payload that has been walked:
--- by offsets, with no value in sight. A loop has at most as many turns as the payload has bytes, which is enough.
+-- Pinned by `SortsPayload` and, with no order but the strict profile's, by `OneSorter`; of public functions, `sort` cites
+-- `sortedPayload`. How the sorter goes over a payload that has been walked: by offsets, with no value in sight. A loop has at
+-- most as many turns as the payload has bytes, which is enough.
 -- Assumes nothing.
 use Prim.Native.Nat.{ℕ, zero, suc, _+_, _≤_}
 use mathlib.Core.Path.{_≡_}
@@ -18,12 +19,22 @@ use Rattle.bencode.specs.Skip.{skipValue}
 use Rattle.bencode.specs.Value.{Value, encode, WellFormed}
 use Rattle.canonical.specs.declared.select.Pick.{Pick}
 use Rattle.canonical.specs.Order.{sorted}
-use Rattle.canonical.specs.Select.{Bound, start, upTo, isPast}
+
+-- ---- what has been written of a dictionary
+-- no entry, or those with keys up to one
+pub data Bound : Type 0 where
+  nothing : Bound
+  upTo : List ℕ → Bound
+
+-- is a key above those written
+abbrev pub isPast : Bound → List ℕ → Bool
+isPast nothing key = true
+isPast (upTo k) key = less k key
 
 -- ---- an entry that was picked
 -- what has been written, where it was the last
 abbrev pub boundOf : List ℕ → Pick → Bound
-boundOf s Pick.None = start
+boundOf s Pick.None = nothing
 boundOf s (Pick.Entry at begin stop) = upTo (slice s begin stop)
 
 -- its key is a part of the payload, and the entry stands in it
@@ -70,14 +81,14 @@ leastAt s b at best = repeatFrom s (leastStep s b) Pick.None at best
 
 -- ---- what is written, where `value` is what is written for the value at an offset
 -- at most n values from an offset on, up to an `e`; each has as many bytes as are written for it
-unfoldable pub itemsFrom : (ℕ → List ℕ) → List ℕ → ℕ → ℕ → List ℕ
-itemsFrom value s zero at = []
-itemsFrom value s (suc n) at = cond (eqb (byteAt s at) letterE) [] (value at ++ itemsFrom value s n (at + length (value at)))
+unfoldable pub valuesFrom : (ℕ → List ℕ) → List ℕ → ℕ → ℕ → List ℕ
+valuesFrom value s zero at = []
+valuesFrom value s (suc n) at = cond (eqb (byteAt s at) letterE) [] (value at ++ valuesFrom value s n (at + length (value at)))
 
 -- the entry that was picked, which is a key and a value, and what comes after it
 abbrev pub chosen : (ℕ → List ℕ) → List ℕ → Pick → (Bound → List ℕ) → List ℕ
 chosen value s Pick.None rest = []
-chosen value s (Pick.Entry at begin stop) rest = itemsFrom value s 2 at ++ rest (upTo (slice s begin stop))
+chosen value s (Pick.Entry at begin stop) rest = valuesFrom value s 2 at ++ rest (upTo (slice s begin stop))
 
 -- at most n entries past a bound, the least key first
 unfoldable pub selected : (ℕ → List ℕ) → List ℕ → ℕ → ℕ → Bound → List ℕ
@@ -86,7 +97,7 @@ selected value s first (suc n) b = chosen value s (leastAt s b first Pick.None) 
 
 -- the entries of a dictionary: as they stand where their keys rise
 unfoldable pub entriesAt : (ℕ → List ℕ) → List ℕ → ℕ → List ℕ
-entriesAt value s first = cond (risesAt s first start) (itemsFrom value s (length s) first) (selected value s first (length s) start)
+entriesAt value s first = cond (risesAt s first nothing) (valuesFrom value s (length s) first) (selected value s first (length s) nothing)
 
 -- a string or an integer at an offset
 abbrev pub copiedAt : List ℕ → ℕ → List ℕ
@@ -96,7 +107,7 @@ copiedAt s at = slice s at (skipValue s at)
 unfoldable pub sortedAt : ℕ → List ℕ → ℕ → List ℕ
 sortedAt zero s at = copiedAt s at
 sortedAt (suc levels) s at =
-    cond (eqb (byteAt s at) letterL) (letterL ∷ (itemsFrom (λ to. sortedAt levels s to) s (length s) (at + 1) ++ (letterE ∷ [])))
+    cond (eqb (byteAt s at) letterL) (letterL ∷ (valuesFrom (λ to. sortedAt levels s to) s (length s) (at + 1) ++ (letterE ∷ [])))
     (cond (eqb (byteAt s at) letterD) (letterD ∷ (entriesAt (λ to. sortedAt levels s to) s (at + 1) ++ (letterE ∷ [])))
     (copiedAt s at))
 

@@ -4,8 +4,7 @@ ghost use Prim.Native.Nat.{_≤_};
 ghost use lib.ListN.{length};
 ghost use Rattle.octets.specs.Bytes.{slice};
 ghost use Rattle.canonical.specs.declared.select.Pick.{Pick};
-ghost use Rattle.canonical.specs.Select.{start, isPast};
-ghost use Rattle.canonical.specs.SortWalk.{boundOf, Inside, isBelow, preferredAt, risesAt, leastAt};
+ghost use Rattle.canonical.specs.SortWalk.{nothing, isPast, boundOf, Inside, isBelow, preferredAt, risesAt, leastAt};
 use bencode::Text;
 use bencode::skip_value;
 use bencode::string;
@@ -47,8 +46,8 @@ fn is_below(s: &[u8], best: Pick, start: usize, end: usize) -> bool
     }
 }
 
-// The best entry after the one at an offset, whose key goes from start up to end: it counts where that is above the last one
-// written.
+// The better of the best entry so far and the one at an offset, whose key goes from start up to end. Where that key is not above
+// the last one written, it is the best one so far.
 fn preferred(s: &[u8], last: Pick, best: Pick, at: usize, start: usize, end: usize) -> Pick
     requires { ⌜ (start ≤ end) × (end ≤ length (now s)) × Inside (now s) last × Inside (now s) best ⌝ }
     ensures { λ r. ⌜ r ≡ preferredAt (now (s .entry)) (boundOf (now (s .entry)) last) best at start end ⌝ }
@@ -63,7 +62,7 @@ fn preferred(s: &[u8], last: Pick, best: Pick, at: usize, start: usize, end: usi
 
 // Do the keys rise from the entry at an offset on.
 pub fn rises(s: &[u8], from: usize) -> bool
-    ensures { λ r. ⌜ r ≡ risesAt (now (s .entry)) from start ⌝ }
+    ensures { λ r. ⌜ r ≡ risesAt (now (s .entry)) from nothing ⌝ }
 {
     let mut at = from;
     let mut last = Pick::None;

@@ -3,9 +3,10 @@ ghost use mathlib.Core.Path.{_≡_};
 ghost use lib.ListN.{length};
 ghost use Rattle.bencode.specs.Fault.{fault};
 ghost use Rattle.canonical.specs.declared.sorter.Sorted.{Sorted};
-ghost use Rattle.canonical.specs.Answer.{sortAnswer, lentAfter};
+ghost use Rattle.canonical.specs.Answer.{sortAnswer, SortLeaves};
 ghost use Rattle.canonical.specs.SortWalk.{sortedPayload};
 use super::write::put_value;
+use bencode::Depth;
 use bencode::Fault;
 use bencode::Profile;
 use bencode::Walk;
@@ -24,8 +25,6 @@ impl Sorted {
     pub const OVER_LIMIT: u8 = 4;
     // Fewer bytes are lent than the payload has.
     pub const NO_ROOM: u8 = 44;
-    // How many lists and dictionaries stand in each other at most: what `Depth` of bencode allows.
-    pub const LEVELS: usize = 16;
 }
 
 // A refusal that names no byte.
@@ -37,8 +36,7 @@ fn refused(code: u8) -> Sorted
 
 // Sorts a payload into a lent buffer, from its front on. Nothing is written before all is judged.
 pub fn sort(s: &[u8], out: &mut [u8]) -> Sorted
-    ensures { λ r. ⌜ r ≡ sortAnswer (length (now (out .entry))) (now (s .entry)) ⌝ }
-    ensures { λ r. ⌜ now (out .exit) ≡ lentAfter (sortedPayload (now (s .entry))) (now (out .entry)) r ⌝ }
+    ensures { λ r. ⌜ SortLeaves (sortAnswer (length (now (out .entry))) (now (s .entry))) (sortedPayload (now (s .entry))) (now (out .entry)) r (now (out .exit)) ⌝ }
 {
     if Sorted::LARGEST < s.len() {
         return refused(Sorted::OVER_LIMIT);
@@ -49,7 +47,7 @@ pub fn sort(s: &[u8], out: &mut [u8]) -> Sorted
             if out.len() < s.len() {
                 return refused(Sorted::NO_ROOM);
             }
-            Sorted::Count(put_value(s, 0, Sorted::LEVELS, out, 0))
+            Sorted::Count(put_value(s, 0, Depth::LARGEST as usize, out, 0))
         }
     }
 }

@@ -4,8 +4,7 @@ ghost use mathlib.Core.Path.{_≡_};
 ghost use Prim.Native.Nat.{_+_, _≤_};
 ghost use lib.ListN.{length};
 ghost use Rattle.octets.specs.Put.{Wrote};
-ghost use Rattle.canonical.specs.Select.{start};
-ghost use Rattle.canonical.specs.SortWalk.{itemsFrom, selected, entriesAt, copiedAt, sortedAt};
+ghost use Rattle.canonical.specs.SortWalk.{nothing, valuesFrom, selected, entriesAt, copiedAt, sortedAt};
 use super::select::Pick;
 use super::select::least;
 use super::select::rises;
@@ -25,7 +24,8 @@ fn put_copy(s: &[u8], at: usize, out: &mut [u8], to: usize) -> usize
     put_bytes(out, to, &s[at..end])
 }
 
-// Writes the value at an offset, and answers the offset after what is written.
+// Writes the value at an offset, in which so many lists and dictionaries may stand in each other, and answers the offset after
+// what is written.
 pub fn put_value(s: &[u8], at: usize, levels: usize, out: &mut [u8], to: usize) -> usize
     requires { ⌜ to + length (sortedAt levels (now s) at) ≤ length (now out) ⌝ }
     ensures { λ r. ⌜ Wrote (now (out .entry)) to (sortedAt levels (now (s .entry)) at) (now (out .exit)) r ⌝ }
@@ -49,8 +49,8 @@ pub fn put_value(s: &[u8], at: usize, levels: usize, out: &mut [u8], to: usize) 
 
 // Writes at most so many values from an offset on, up to the end of a list.
 fn put_items(s: &[u8], from: usize, most: usize, levels: usize, out: &mut [u8], to: usize) -> usize
-    requires { ⌜ (from ≤ length (now s)) × (to + length (itemsFrom (sortedAt levels (now s)) (now s) most from) ≤ length (now out)) ⌝ }
-    ensures { λ r. ⌜ Wrote (now (out .entry)) to (itemsFrom (sortedAt levels (now (s .entry))) (now (s .entry)) most from) (now (out .exit)) r ⌝ }
+    requires { ⌜ (from ≤ length (now s)) × (to + length (valuesFrom (sortedAt levels (now s)) (now s) most from) ≤ length (now out)) ⌝ }
+    ensures { λ r. ⌜ Wrote (now (out .entry)) to (valuesFrom (sortedAt levels (now (s .entry))) (now (s .entry)) most from) (now (out .exit)) r ⌝ }
 {
     let mut left = most;
     let mut at = from;
@@ -78,10 +78,11 @@ fn put_entries(s: &[u8], first: usize, levels: usize, out: &mut [u8], to: usize)
     put_selected(s, first, levels, out, to)
 }
 
-// Writes the entries by key, each found by a walk over all of them: it is two values, a key and what the key has.
+// Writes the entries by key, each found by a walk over all of them: it is two values, a key and what the key has. There are fewer
+// entries than bytes, so `left` ends no dictionary early; it shows that the loop ends.
 fn put_selected(s: &[u8], first: usize, levels: usize, out: &mut [u8], to: usize) -> usize
-    requires { ⌜ to + length (selected (sortedAt levels (now s)) (now s) first (length (now s)) start) ≤ length (now out) ⌝ }
-    ensures { λ r. ⌜ Wrote (now (out .entry)) to (selected (sortedAt levels (now (s .entry))) (now (s .entry)) first (length (now (s .entry))) start) (now (out .exit)) r ⌝ }
+    requires { ⌜ to + length (selected (sortedAt levels (now s)) (now s) first (length (now s)) nothing) ≤ length (now out) ⌝ }
+    ensures { λ r. ⌜ Wrote (now (out .entry)) to (selected (sortedAt levels (now (s .entry))) (now (s .entry)) first (length (now (s .entry))) nothing) (now (out .exit)) r ⌝ }
 {
     let mut left = s.len();
     let mut last = Pick::None;

@@ -1,5 +1,5 @@
 // Frames of Transmission's IPC protocol, version 2: eight hex digits of length, then a bencoded message or handshake.
-// Every function takes any bytes and numbers: what is bad is refused by document 01's numbers, and a refusal writes no byte.
+// Every function takes any bytes and numbers: what is bad is refused by the documents' numbers, and a refusal writes no byte.
 mod check;
 mod format;
 mod handshake;

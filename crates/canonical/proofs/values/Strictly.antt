@@ -34,16 +34,16 @@ module _ (formed : Value → Type 0) (stays : (v : Value) → formed v → sorte
       ap₂ (λ (x : Value) (y : Entries). insert k x y) (stays v (a .1)) (entries-stay (k ∷ keys) es (a .2))
       ∙ first-stays formed k keys v es (a .2)
 
-pub strict-stays : (levels : ℕ) (v : Value) → WellFormed Profile.Strict levels v → sorted v ≡ v
+pub stays-sorted : (levels : ℕ) (v : Value) → WellFormed Profile.Strict levels v → sorted v ≡ v
 unfolding sorted
-strict-stays zero (integer z) a = refl
-strict-stays zero (string t) a = refl
-strict-stays zero (list vs) a = absurd a
-strict-stays zero (dictionary es) a = absurd a
-strict-stays (suc levels) (integer z) a = refl
-strict-stays (suc levels) (string t) a = refl
-strict-stays (suc levels) (list vs) a = ap list (all-stay (λ v. WellFormed Profile.Strict levels v) (λ v b. strict-stays levels v b) vs a)
-strict-stays (suc levels) (dictionary es) a = ap dictionary (entries-stay (λ v. WellFormed Profile.Strict levels v) (λ v b. strict-stays levels v b) [] es a)
+stays-sorted zero (integer z) a = refl
+stays-sorted zero (string t) a = refl
+stays-sorted zero (list vs) a = absurd a
+stays-sorted zero (dictionary es) a = absurd a
+stays-sorted (suc levels) (integer z) a = refl
+stays-sorted (suc levels) (string t) a = refl
+stays-sorted (suc levels) (list vs) a = ap list (all-stay (λ v. WellFormed Profile.Strict levels v) (λ v b. stays-sorted levels v b) vs a)
+stays-sorted (suc levels) (dictionary es) a = ap dictionary (entries-stay (λ v. WellFormed Profile.Strict levels v) (λ v b. stays-sorted levels v b) [] es a)
 
 -- ---- what is sorted is strict
 -- every key is above each of some others
@@ -97,4 +97,4 @@ sorted-strict (suc levels) (dictionary es) a = entries-become (λ v. WellFormed 
 
 -- sorting twice changes nothing
 pub sorted-twice : (levels : ℕ) (v : Value) → WellFormed Profile.Loose levels v → sorted (sorted v) ≡ sorted v
-sorted-twice levels v a = strict-stays levels (sorted v) (sorted-strict levels v a)
+sorted-twice levels v a = stays-sorted levels (sorted v) (sorted-strict levels v a)

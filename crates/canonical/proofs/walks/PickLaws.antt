@@ -7,8 +7,7 @@ use mathlib.Core.List.{List}
 use lib.ListN.{length}
 use Rattle.octets.specs.Bytes.{slice, less}
 use Rattle.canonical.specs.declared.select.Pick.{Pick}
-use Rattle.canonical.specs.Select.{Bound, isPast}
-use Rattle.canonical.specs.SortWalk.{boundOf, Inside, isBelow, preferredAt}
+use Rattle.canonical.specs.SortWalk.{Bound, isPast, boundOf, Inside, isBelow, preferredAt}
 
 module _ (s : List ℕ) (p : Pick) (at begin stop : ℕ) (e : p ≡ Pick.Entry at begin stop) where
   pub picked-inside : Inside s p → (at ≤ length s) × (begin ≤ stop) × (stop ≤ length s)

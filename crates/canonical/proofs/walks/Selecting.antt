@@ -6,15 +6,42 @@ use mathlib.Core.Bool.{Bool, true, false, cond}
 use mathlib.Core.List.{List, []}
 use Rattle.bencode.specs.declared.profile.Profile.{Profile}
 use Rattle.octets.specs.Bytes.{same, less}
-use Rattle.bencode.specs.Value.{Value, Entries, no-entry, entry, Found, found, missing, lookup, WellFormed}
+use Rattle.bencode.specs.Value.{Value, Entries, no-entry, entry, Found, found, missing, lookup, AllEntries, WellFormed}
 use Rattle.octets.proofs.sequences.Order.{clash, same-eq, same-refl, less-trans, less-total}
 use Rattle.canonical.specs.Order.{sorted, sortedEntries}
-use Rattle.canonical.specs.Select.{Bound, start, upTo, isPast, Next, none, next, better, least, past, Follows, SelectsNext, PastStart}
+use Rattle.canonical.specs.SortWalk.{Bound, nothing, upTo, isPast}
 use Rattle.canonical.proofs.values.Inserts.{Above, Rising, more-differs}
 use Rattle.canonical.proofs.values.Maps.{one-map}
 use Rattle.canonical.proofs.values.SameLaws.{sortedFound, lookup-sorted, sorted-rises}
 
-pub past-start : PastStart
+-- ---- the next entry of a list of entries
+-- an entry, or none
+pub data Next : Type 0 where
+  none : Next
+  next : List ℕ → Value → Next
+
+-- the better of the best so far and one more entry
+abbrev pub better : Next → List ℕ → Value → Next
+better none key v = next key v
+better (next k w) key v = cond (less key k) (next key v) (next k w)
+
+-- the entry with the least key past a bound, after the best so far
+unfoldable pub least : Bound → Next → Entries → Next
+least b best no-entry = best
+least b best (entry key v es) = least b (cond (isPast b key) (better best key v) best) es
+
+-- the entries past a bound
+unfoldable pub past : Bound → Entries → Entries
+past b no-entry = no-entry
+past b (entry key v es) = cond (isPast b key) (entry key v (past b es)) (past b es)
+
+-- the sorted entries past a bound: none where no entry is found; else the one found, and those past its key
+abbrev pub Follows : Entries → Bound → Next → Type 0
+Follows es b none = past b (sortedEntries es) ≡ no-entry
+Follows es b (next key v) = past b (sortedEntries es) ≡ entry key (sorted v) (past (upTo key) (sortedEntries es))
+
+-- where nothing is written, all entries are past it
+pub past-start : (es : Entries) → past nothing es ≡ es
 unfolding past
 past-start no-entry = refl
 past-start (entry k v es) = ap (entry k v) (past-start es)
@@ -165,7 +192,7 @@ past-above k (entry j w es) = go (less k j) refl (past-above k es)
 
 -- what is past a key that is past a bound is past the bound
 past-trans : (b : Bound) (k key : List ℕ) → isPast b k ≡ true → less k key ≡ true → isPast b key ≡ true
-past-trans start k key p q = refl
+past-trans nothing k key p q = refl
 past-trans (upTo j) k key p q = less-trans j k key p q
 
 -- ---- the next entry
@@ -197,5 +224,6 @@ module _ (es : Entries) (b : Bound) (rises : Rising (sortedEntries es)) where
   follows none h = none-follows h
   follows (next k v) h = next-follows k v h
 
-pub selects-next : SelectsNext
+-- the next entry is the first of the sorted ones past those written
+pub selects-next : (levels : ℕ) (es : Entries) (b : Bound) → AllEntries Profile.Loose (WellFormed Profile.Loose levels) [] es → Follows es b (least b none es)
 selects-next levels es b a = follows es b (sorted-rises (WellFormed Profile.Loose levels) [] es a) (least b none es) (least-is b es)

@@ -18,11 +18,10 @@ use Rattle.bencode.proofs.values.Encodings.{values-text}
 use Rattle.bencode.proofs.Lookups.{starts, value-first, items-begin, entries-begin, skips-value}
 use Rattle.canonical.specs.declared.select.Pick.{Pick}
 use Rattle.canonical.specs.Order.{insert, sorted, sortedAll, sortedEntries}
-use Rattle.canonical.specs.Select.{Bound, start, upTo, Next, none, next, least, past, Follows}
-use Rattle.canonical.specs.SortWalk.{risesAt, leastAt, chosen, selected, entriesAt, itemsFrom, copiedAt, sortedAt, SortsAt}
+use Rattle.canonical.specs.SortWalk.{Bound, nothing, upTo, risesAt, leastAt, chosen, selected, entriesAt, valuesFrom, copiedAt, sortedAt, SortsAt}
 use Rattle.canonical.proofs.values.Inserts.{Above, Rising}
 use Rattle.canonical.proofs.values.Lengths.{length-sorted}
-use Rattle.canonical.proofs.walks.Selecting.{past-start, selects-next}
+use Rattle.canonical.proofs.walks.Selecting.{Next, none, next, least, past, Follows, past-start, selects-next}
 use Rattle.canonical.proofs.walks.Standing.{found-rising, Picked, least-picked}
 
 -- ---- how many
@@ -104,16 +103,16 @@ rising-flat (entry k v es) r = ap (λ (x : Values). value (string k) (value (sor
 -- ---- what is written
 module _ (levels : ℕ) (s : List ℕ) (write : ℕ → List ℕ) (writes : (v : Value) (at end : ℕ) → WellFormed Profile.Loose levels v → Begins s at (encode v) end → write at ≡ encode (sorted v)) where
   -- one value, and the others after it
-  item-is : (v : Value) (n at end : ℕ) → WellFormed Profile.Loose levels v → Begins s at (encode v) end → itemsFrom write s (suc n) at ≡ encode (sorted v) ++ itemsFrom write s n (at + length (encode v))
-  unfolding itemsFrom
+  item-is : (v : Value) (n at end : ℕ) → WellFormed Profile.Loose levels v → Begins s at (encode v) end → valuesFrom write s (suc n) at ≡ encode (sorted v) ++ valuesFrom write s n (at + length (encode v))
+  unfolding valuesFrom
   item-is v n at end a h =
       let e = writes v at end a h in
       rw (ne-eqb (byteAt s at) 101 (value-first s at end v h), e, length-sorted v) refl
 
-  items-are : (vs : Values) (n at end : ℕ) → length (encodeAll vs) ≤ n → All (WellFormed Profile.Loose levels) vs → Begins s at (encodeAll vs ++ (101 ∷ [])) end → itemsFrom write s n at ≡ encodeAll (sortedAll vs)
+  items-are : (vs : Values) (n at end : ℕ) → length (encodeAll vs) ≤ n → All (WellFormed Profile.Loose levels) vs → Begins s at (encodeAll vs ++ (101 ∷ [])) end → valuesFrom write s n at ≡ encodeAll (sortedAll vs)
   unfolding sorted encode
-  items-are no-value zero at end l a h = unfold itemsFrom in refl
-  items-are no-value (suc n) at end l a h = unfold itemsFrom in rw (eq-eqb (byteAt s at) 101 (begins-head s at 101 end [] h)) refl
+  items-are no-value zero at end l a h = unfold valuesFrom in refl
+  items-are no-value (suc n) at end l a h = unfold valuesFrom in rw (eq-eqb (byteAt s at) 101 (begins-head s at 101 end [] h)) refl
   items-are (value v vs) zero at end l a h = absurd (omega (arith, length-append (encode v) (encodeAll vs), encode-some v))
   items-are (value v vs) (suc n) at end l a h =
       let b = subst (λ (x : List ℕ). Begins s at x end) (values-text v vs) h in
@@ -123,12 +122,12 @@ module _ (levels : ℕ) (s : List ℕ) (write : ℕ → List ℕ) (writes : (v :
       ∙ ap (λ (x : List ℕ). encode (sorted v) ++ x) (items-are vs n (at + length (encode v)) end (omega (arith, length-append (encode v) (encodeAll vs), encode-some v)) (a .1) d)
 
   -- an entry that was picked
-  entry-is : (k : List ℕ) (v : Value) (at stop : ℕ) → WellFormed Profile.Loose levels v → Begins s at (encodeString k) stop → Begins s stop (encode v) (stop + length (encode v)) → itemsFrom write s 2 at ≡ encodeString k ++ encode (sorted v)
+  entry-is : (k : List ℕ) (v : Value) (at stop : ℕ) → WellFormed Profile.Loose levels v → Begins s at (encodeString k) stop → Begins s stop (encode v) (stop + length (encode v)) → valuesFrom write s 2 at ≡ encodeString k ++ encode (sorted v)
   unfolding sorted encode
   entry-is k v at stop a h c =
       item-is (string k) 1 at stop (string-formed levels k) h
-      ∙ ap (λ (to : ℕ). encodeString k ++ itemsFrom write s 1 to) (sym (h .ends))
-      ∙ ap (λ (x : List ℕ). encodeString k ++ x) (item-is v 0 stop (stop + length (encode v)) a c ∙ unfold itemsFrom in append-nil (encode (sorted v)))
+      ∙ ap (λ (to : ℕ). encodeString k ++ valuesFrom write s 1 to) (sym (h .ends))
+      ∙ ap (λ (x : List ℕ). encodeString k ++ x) (item-is v 0 stop (stop + length (encode v)) a c ∙ unfold valuesFrom in append-nil (encode (sorted v)))
 
   module _ (es : Entries) (first end : ℕ) (a : AllEntries Profile.Loose (WellFormed Profile.Loose levels) [] es) (h : Begins s first (encodeEntries es ++ (101 ∷ [])) end) where
     chosen-is : (b : Bound) (n : ℕ) (e : Pick) (r : Next) → Picked levels s e r → Follows es b r → count (past b (sortedEntries es)) ≤ suc n
@@ -154,7 +153,7 @@ module _ (levels : ℕ) (s : List ℕ) (write : ℕ → List ℕ) (writes : (v :
     fits : length (encodeEntries es) ≤ length s
     fits = inside-payload s (encodeEntries es) first end h
 
-    in-order-is : Rising es → itemsFrom write s (length s) first ≡ encodeEntries (sortedEntries es)
+    in-order-is : Rising es → valuesFrom write s (length s) first ≡ encodeEntries (sortedEntries es)
     in-order-is r =
         let text = flat-text es in
         items-are (flat es) (length s) first end (omega (arith, ap length text, fits)) (flat-formed levels [] es a) (subst (λ (x : List ℕ). Begins s first (x ++ (101 ∷ [])) end) (sym text) h)
@@ -162,13 +161,13 @@ module _ (levels : ℕ) (s : List ℕ) (write : ℕ → List ℕ) (writes : (v :
 
     entries-are : entriesAt write s first ≡ encodeEntries (sortedEntries es)
     unfolding entriesAt
-    entries-are = go (risesAt s first start) refl
+    entries-are = go (risesAt s first nothing) refl
       where
-        go : (t : Bool) → risesAt s first start ≡ t → cond t (itemsFrom write s (length s) first) (selected write s first (length s) start) ≡ encodeEntries (sortedEntries es)
+        go : (t : Bool) → risesAt s first nothing ≡ t → cond t (valuesFrom write s (length s) first) (selected write s first (length s) nothing) ≡ encodeEntries (sortedEntries es)
         go true e = in-order-is (found-rising levels s es first end a h e)
         go false e =
             let all = past-start (sortedEntries es) in
-            selected-is (length s) start (omega (arith, ap count all, count-sorted es, count-bytes es, fits)) ∙ ap encodeEntries all
+            selected-is (length s) nothing (omega (arith, ap count all, count-sorted es, count-bytes es, fits)) ∙ ap encodeEntries all
 
 -- ---- values
 copied-is : (levels : ℕ) (v : Value) (s : List ℕ) (at end : ℕ) → WellFormed Profile.Loose levels v → Begins s at (encode v) end → copiedAt s at ≡ encode v
@@ -179,7 +178,7 @@ module _ (levels : ℕ) (s : List ℕ) (at : ℕ) where
   unfolding sortedAt
   at-copied l d = rw (ne-eqb (byteAt s at) 108 l, ne-eqb (byteAt s at) 100 d) refl
 
-  pub at-list : byteAt s at ≡ 108 → sortedAt (suc levels) s at ≡ 108 ∷ (itemsFrom (λ to. sortedAt levels s to) s (length s) (at + 1) ++ (101 ∷ []))
+  pub at-list : byteAt s at ≡ 108 → sortedAt (suc levels) s at ≡ 108 ∷ (valuesFrom (λ to. sortedAt levels s to) s (length s) (at + 1) ++ (101 ∷ []))
   unfolding sortedAt
   at-list e = rw (eq-eqb (byteAt s at) 108 e) refl
 

@@ -22,9 +22,9 @@ use Rattle.bencode.proofs.values.FirstBytes.{no-string}
 use Rattle.bencode.proofs.values.ScalarReads.{string-reads}
 use Rattle.bencode.proofs.Lookups.{skips-value}
 use Rattle.canonical.specs.declared.select.Pick.{Pick}
-use Rattle.canonical.specs.Select.{Bound, start, upTo, isPast, Next, none, next, better, least}
-use Rattle.canonical.specs.SortWalk.{riseText, risesAt, betterAt, leastText, leastAt}
+use Rattle.canonical.specs.SortWalk.{Bound, nothing, upTo, isPast, riseText, risesAt, betterAt, leastText, leastAt}
 use Rattle.canonical.proofs.values.Inserts.{Above, Rising}
+use Rattle.canonical.proofs.walks.Selecting.{Next, none, next, better, least}
 use Rattle.canonical.proofs.walks.Steps.{rise-step, least-step}
 
 -- ---- an entry where it stands
@@ -96,14 +96,14 @@ rises-above k (entry j w es) e = go (less k j) refl e (λ q. rises-above j es q)
     go true p e rec = let r = rec e in ((p, above-more k j es p (r .0)), (r .0, r .1))
     go false p e rec = clash false e refl
 
-rises-rising : (es : Entries) → risesIn start es ≡ true → Rising es
+rises-rising : (es : Entries) → risesIn nothing es ≡ true → Rising es
 unfolding risesIn
 rises-rising no-entry e = tt
 rises-rising (entry k v es) e = rises-above k es e
 
 -- where the code finds that the keys rise, they do
-pub found-rising : (levels : ℕ) (s : List ℕ) (es : Entries) (at end : ℕ) → AllEntries Profile.Loose (WellFormed Profile.Loose levels) [] es → Begins s at (encodeEntries es ++ (101 ∷ [])) end → risesAt s at start ≡ true → Rising es
-found-rising levels s es at end a h e = rises-rising es (sym (rises-is levels s end es [] at start a h) ∙ e)
+pub found-rising : (levels : ℕ) (s : List ℕ) (es : Entries) (at end : ℕ) → AllEntries Profile.Loose (WellFormed Profile.Loose levels) [] es → Begins s at (encodeEntries es ++ (101 ∷ [])) end → risesAt s at nothing ≡ true → Rising es
+found-rising levels s es at end a h e = rises-rising es (sym (rises-is levels s end es [] at nothing a h) ∙ e)
 
 -- ---- the next entry, where it stands
 unfoldable pub Picked : ℕ → List ℕ → Pick → Next → Type 0

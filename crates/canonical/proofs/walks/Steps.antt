@@ -16,8 +16,7 @@ use Rattle.bencode.proofs.loops.LoopLaws.{repeat-step}
 use Rattle.bencode.proofs.walking.Ends.{string-whole-inv}
 use Rattle.bencode.proofs.lookup.SkipLaws.{skip-range}
 use Rattle.canonical.specs.declared.select.Pick.{Pick}
-use Rattle.canonical.specs.Select.{Bound, upTo, isPast}
-use Rattle.canonical.specs.SortWalk.{boundOf, riseText, riseStep, risesAt, preferredAt, leastText, leastStep, leastAt}
+use Rattle.canonical.specs.SortWalk.{Bound, upTo, isPast, boundOf, riseText, riseStep, risesAt, preferredAt, leastText, leastStep, leastAt}
 
 pub entry-past : (s : List ℕ) (at begin stop to : ℕ) → stringAt s at ≡ Text.Bytes begin stop → skipValue s stop ≡ to → Past s at to
 entry-past s at begin stop to e i =

@@ -12,9 +12,7 @@ use Rattle.octets.specs.Put.{Wrote, Put}
 use Rattle.octets.proofs.writing.PutLaws.{Writing, wrote-length, wrote-then, put-wrote, start, room-next, next, finish}
 use Rattle.bencode.specs.Skip.{skipValue}
 use Rattle.canonical.specs.declared.select.Pick.{Pick}
-use Rattle.canonical.specs.Select.{Bound, upTo}
-use Rattle.canonical.specs.Select as Select
-use Rattle.canonical.specs.SortWalk.{boundOf, leastAt, risesAt, itemsFrom, chosen, selected, entriesAt, copiedAt, sortedAt}
+use Rattle.canonical.specs.SortWalk.{Bound, nothing, upTo, boundOf, leastAt, risesAt, valuesFrom, chosen, selected, entriesAt, copiedAt, sortedAt}
 use Rattle.canonical.proofs.walks.SortWalks.{at-copied, at-list, at-dictionary}
 
 take-none : (n : ℕ) (l : List ℕ) → l ≡ [] → take n l ≡ []
@@ -41,12 +39,12 @@ module _ (levels : ℕ) (s : List ℕ) (at : ℕ) (h : levels ≡ 0 → ⊥) whe
       go zero k l d = absurd (k refl)
       go (suc n) k l d = at-copied n s at l d
 
-  pub above-list : byteAt s at ≡ 108 → sortedAt levels s at ≡ 108 ∷ (itemsFrom (sortedAt (levels - 1) s) s (length s) (at + 1) ++ (101 ∷ []))
+  pub above-list : byteAt s at ≡ 108 → sortedAt levels s at ≡ 108 ∷ (valuesFrom (sortedAt (levels - 1) s) s (length s) (at + 1) ++ (101 ∷ []))
   above-list = go levels h
     where
-      go : (n : ℕ) → (n ≡ 0 → ⊥) → byteAt s at ≡ 108 → sortedAt n s at ≡ 108 ∷ (itemsFrom (sortedAt (n - 1) s) s (length s) (at + 1) ++ (101 ∷ []))
+      go : (n : ℕ) → (n ≡ 0 → ⊥) → byteAt s at ≡ 108 → sortedAt n s at ≡ 108 ∷ (valuesFrom (sortedAt (n - 1) s) s (length s) (at + 1) ++ (101 ∷ []))
       go zero k e = absurd (k refl)
-      go (suc n) k e = let d : n ≡ suc n - 1 = omega arith in at-list n s at e ∙ ap (λ (m : ℕ). 108 ∷ (itemsFrom (sortedAt m s) s (length s) (at + 1) ++ (101 ∷ []))) d
+      go (suc n) k e = let d : n ≡ suc n - 1 = omega arith in at-list n s at e ∙ ap (λ (m : ℕ). 108 ∷ (valuesFrom (sortedAt m s) s (length s) (at + 1) ++ (101 ∷ []))) d
 
   pub above-dictionary : byteAt s at ≡ 100 → sortedAt levels s at ≡ 100 ∷ (entriesAt (sortedAt (levels - 1) s) s (at + 1) ++ (101 ∷ []))
   above-dictionary = go levels h
@@ -57,28 +55,28 @@ module _ (levels : ℕ) (s : List ℕ) (at : ℕ) (h : levels ≡ 0 → ⊥) whe
 
 -- ---- the values of a list
 module _ (value : ℕ → List ℕ) (s : List ℕ) (at : ℕ) where
-  pub items-over : (n : ℕ) → n ≤ 0 → itemsFrom value s n at ≡ []
-  unfolding itemsFrom
+  pub items-over : (n : ℕ) → n ≤ 0 → valuesFrom value s n at ≡ []
+  unfolding valuesFrom
   items-over zero h = refl
   items-over (suc n) h = absurd (omega arith)
 
-  pub items-end : (n : ℕ) → byteAt s at ≡ 101 → itemsFrom value s n at ≡ []
-  unfolding itemsFrom
+  pub items-end : (n : ℕ) → byteAt s at ≡ 101 → valuesFrom value s n at ≡ []
+  unfolding valuesFrom
   items-end zero e = refl
   items-end (suc n) e = rw (eq-eqb (byteAt s at) 101 e) refl
 
-  pub items-more : (n : ℕ) → 0 < n → (byteAt s at ≡ 101 → ⊥) → itemsFrom value s n at ≡ value at ++ itemsFrom value s (n - 1) (at + length (value at))
-  unfolding itemsFrom
+  pub items-more : (n : ℕ) → 0 < n → (byteAt s at ≡ 101 → ⊥) → valuesFrom value s n at ≡ value at ++ valuesFrom value s (n - 1) (at + length (value at))
+  unfolding valuesFrom
   items-more zero h e = absurd (omega arith)
-  items-more (suc n) h e = let d : n ≡ suc n - 1 = omega arith in rw (ne-eqb (byteAt s at) 101 e) refl ∙ ap (λ (k : ℕ). value at ++ itemsFrom value s k (at + length (value at))) d
+  items-more (suc n) h e = let d : n ≡ suc n - 1 = omega arith in rw (ne-eqb (byteAt s at) 101 e) refl ∙ ap (λ (k : ℕ). value at ++ valuesFrom value s k (at + length (value at))) d
 
 -- ---- the entries of a dictionary
 module _ (value : ℕ → List ℕ) (s : List ℕ) (first : ℕ) where
-  pub entries-rise : risesAt s first Select.start ≡ true → entriesAt value s first ≡ itemsFrom value s (length s) first
+  pub entries-rise : risesAt s first nothing ≡ true → entriesAt value s first ≡ valuesFrom value s (length s) first
   unfolding entriesAt
   entries-rise e = rw e refl
 
-  pub entries-mixed : risesAt s first Select.start ≡ false → entriesAt value s first ≡ selected value s first (length s) Select.start
+  pub entries-mixed : risesAt s first nothing ≡ false → entriesAt value s first ≡ selected value s first (length s) nothing
   unfolding entriesAt
   entries-mixed e = rw e refl
 
@@ -93,13 +91,13 @@ module _ (value : ℕ → List ℕ) (s : List ℕ) (first : ℕ) where
     selected-none zero p h e = refl
     selected-none (suc n) p h e = ap (λ (x : Pick). chosen value s x (λ c. selected value s first n c)) (sym h ∙ e)
 
-    pub selected-more : (n : ℕ) (p : Pick) (at begin stop : ℕ) → 0 < n → p ≡ leastAt s b first Pick.None → p ≡ Pick.Entry at begin stop → selected value s first n b ≡ itemsFrom value s 2 at ++ selected value s first (n - 1) (boundOf s (Pick.Entry at begin stop))
+    pub selected-more : (n : ℕ) (p : Pick) (at begin stop : ℕ) → 0 < n → p ≡ leastAt s b first Pick.None → p ≡ Pick.Entry at begin stop → selected value s first n b ≡ valuesFrom value s 2 at ++ selected value s first (n - 1) (boundOf s (Pick.Entry at begin stop))
     unfolding selected
     selected-more zero p at begin stop l h e = absurd (omega arith)
     selected-more (suc n) p at begin stop l h e =
         let d : n ≡ suc n - 1 = omega arith in
         ap (λ (x : Pick). chosen value s x (λ c. selected value s first n c)) (sym h ∙ e)
-        ∙ ap (λ (k : ℕ). itemsFrom value s 2 at ++ selected value s first k (upTo (slice s begin stop))) d
+        ∙ ap (λ (k : ℕ). valuesFrom value s 2 at ++ selected value s first k (upTo (slice s begin stop))) d
 
 -- ---- bytes being written, by what is left of them
 -- from the offset i of a buffer the bytes `all` are being written: so far it is b, and from the offset j on `left` is left

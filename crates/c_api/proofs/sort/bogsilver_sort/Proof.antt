@@ -2,8 +2,6 @@
 -- Assumes nothing.
 use mathlib.Core.Path.{ap, _∙_}
 use borrow.Author.Needs.{needs}
-use Rattle.canonical.specs.Answer.{lentAfter}
-use Rattle.canonical.specs.SortWalk.{sortedPayload}
 use Rattle.c_api.specs.Sort.{sortNumbers}
 use Rattle.c_api.proofs.sort.bogsilver_sort.Statement.{statement}
 use Rattle.c_api.proofs.sort.bogsilver_sort.Tie as tie
@@ -18,12 +16,7 @@ same-length : tie.Need-same-length
 same-length c = search needs
 
 returns : tie.Need-returns
-returns c =
-    let a = c .before .before .before .before .before .before .before .args in
-    record {
-      answered = c .sort-answer-of .ensures ∙ ap sortNumbers (c .before .before .before .sort .ensures .0);
-      buffer = c .before .before .before .sort .ensures .1 ∙ ap (lentAfter (sortedPayload (a .s .now)) (a .out .now)) (c .before .before .before .sort .ensures .0);
-    }
+returns c = record { answered = c .sort-answer-of .ensures ∙ ap sortNumbers (c .before .before .before .sort .ensures .answered); buffer = c .before .before .before .sort .ensures .buffer }
 
 pub bogsilver-sort-spec : {M : Type 1} → statement M
 bogsilver-sort-spec = tie.close (tie.spec sort-requires sort-answer-of-requires same-length returns)

@@ -7,8 +7,7 @@ use lib.ListN.{length}
 use Rattle.bencode.proofs.walking.Ends.{string-whole-inv}
 use Rattle.bencode.proofs.lookup.SkipLaws.{skip-range}
 use Rattle.canonical.specs.declared.select.Pick.{Pick}
-use Rattle.canonical.specs.Select.{start}
-use Rattle.canonical.specs.SortWalk.{boundOf, Inside, risesAt}
+use Rattle.canonical.specs.SortWalk.{nothing, boundOf, Inside, risesAt}
 use Rattle.canonical.proofs.walks.Steps.{rise-end, rise-falls, rise-more}
 use borrow.Author.Tests.{not-true, not-false}
 use borrow.Author.Needs.{needs}
@@ -16,7 +15,7 @@ use Rattle.canonical.proofs.select.rises.Statement.{statement}
 use Rattle.canonical.proofs.select.rises.Tie as tie
 
 abbrev Inv-loop : tie.InvT-loop
-Inv-loop s from at₀ last₀ at last = (risesAt s at (boundOf s last) ≡ risesAt s from start) × Inside s last
+Inv-loop s from at₀ last₀ at last = (risesAt s at (boundOf s last) ≡ risesAt s from nothing) × Inside s last
 
 abbrev μ-loop : tie.MeasureT-loop
 μ-loop s from at₀ last₀ at last = length s - at

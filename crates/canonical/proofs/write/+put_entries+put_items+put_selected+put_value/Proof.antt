@@ -13,8 +13,7 @@ use Rattle.octets.specs.Bytes.{byteAt}
 use Rattle.octets.specs.Put.{Wrote}
 use Rattle.octets.proofs.digits.NumeralLaws.{inside}
 use Rattle.canonical.specs.declared.select.Pick.{Pick}
-use Rattle.canonical.specs.Select.{start}
-use Rattle.canonical.specs.SortWalk.{boundOf, Inside, itemsFrom, selected, entriesAt, sortedAt}
+use Rattle.canonical.specs.SortWalk.{nothing, boundOf, Inside, valuesFrom, selected, entriesAt, sortedAt}
 use Rattle.canonical.proofs.walks.PickLaws.{picked-inside}
 use Rattle.canonical.proofs.walks.WriteLaws.{at-bottom, above-copied, above-list, above-dictionary, items-over, items-end, items-more, entries-rise, entries-mixed, selected-over, selected-none, selected-more, Left, left-all, left-room, left-next, left-none, opened-room, closed-wrote}
 use Prim.Native.Nat.{ℕ, _<_}
@@ -141,7 +140,7 @@ put-entries-returns-2 t c =
     subst (λ (x : List ℕ). Wrote (a .out .now) (a .to) x (c .before .before .put-selected .last .1 .1 .1 .0) (c .before .before .put-selected .result)) (sym e) (c .before .before .put-selected .ensures)
 
 abbrev put-items-Inv-loop : put-items-lts.InvT-loop
-put-items-Inv-loop s from most levels out₀ to left₀ at₀ o₀ out left at o = Left out₀ to (itemsFrom (sortedAt levels s) s most from) out o (itemsFrom (sortedAt levels s) s left at) × (at + to ≡ from + o)
+put-items-Inv-loop s from most levels out₀ to left₀ at₀ o₀ out left at o = Left out₀ to (valuesFrom (sortedAt levels s) s most from) out o (valuesFrom (sortedAt levels s) s left at) × (at + to ≡ from + o)
 
 abbrev put-items-μ-loop : put-items-lts.MeasureT-loop
 put-items-μ-loop s from most levels out₀ to left₀ at₀ o₀ out left at o = left
@@ -151,7 +150,7 @@ put-items-loop-holds t c =
     let a = c .before .before .args in
     let s = a .s .now in
     let value = sortedAt (a .levels) s in
-    (left-all (a .out .now) (a .to) (itemsFrom value s (a .most) (a .from)) (c .before .before .pre .1 .1), refl)
+    (left-all (a .out .now) (a .to) (valuesFrom value s (a .most) (a .from)) (c .before .before .pre .1 .1), refl)
 
 put-items-byte-at-requires : (t : ℕ) → put-items-lts.Need-byte-at-requires (put-items-calls t) (put-items-at t) put-items.Post put-items-Inv-loop put-items-μ-loop
 put-items-byte-at-requires t c κs = tt
@@ -174,7 +173,7 @@ put-items-put-value-requires t c κs =
     let value = sortedAt (a .levels) s in
     let l = c .before .before .before .before .loop in
     let x = value (l .at) in
-    let y = itemsFrom value s (l .left - 1) (l .at + length x) in
+    let y = valuesFrom value s (l .left - 1) (l .at + length x) in
     let e = items-more value s (l .at) (l .left) (c .before .before .before .loop-test .taken) (λ q. c .before .if1 .left (c .before .before .byte-at .ensures ∙ q)) in
     (omega (arith, c .before .before .before .before .before .before .before .pre .0), left-room (l .inv .0) x y e)
 
@@ -193,7 +192,7 @@ put-items-add-at t c =
     let value = sortedAt (a .levels) s in
     let l = c .before .before .before .before .before .before .before .loop in
     let x = value (l .at) in
-    let y = itemsFrom value s (l .left - 1) (l .at + length x) in
+    let y = valuesFrom value s (l .left - 1) (l .at + length x) in
     let e = items-more value s (l .at) (l .left) (c .before .before .before .before .before .before .loop-test .taken) (λ q. c .before .before .before .before .if1 .left (c .before .before .before .before .before .byte-at .ensures ∙ q)) in
     omega (arith, c .before .before .put-value .ensures .ended, left-room (l .inv .0) x y e, l .inv .1, c .before .before .before .before .before .before .before .before .before .before .pre .1 .0)
 
@@ -210,11 +209,11 @@ put-items-loop-again t c =
     let value = sortedAt (a .levels) s in
     let l = c .before .before .before .before .before .before .before .loop in
     let x = value (l .at) in
-    let y = itemsFrom value s (l .left - 1) (l .at + length x) in
+    let y = valuesFrom value s (l .left - 1) (l .at + length x) in
     let e = items-more value s (l .at) (l .left) (c .before .before .before .before .before .before .loop-test .taken) (λ q. c .before .before .before .before .if1 .left (c .before .before .before .before .before .byte-at .ensures ∙ q)) in
     let w = c .before .before .put-value .ensures in
     let d : l .at + length x ≡ l .at + (c .before .before .put-value .result - l .o) = omega (arith, w .ended) in (
-      subst (λ (k : ℕ). Left (a .out .now) (a .to) (itemsFrom value s (a .most) (a .from)) (c .before .before .put-value .last .1 .1 .1 .0) (c .before .before .put-value .result) (itemsFrom value s (l .left - 1) k)) d
+      subst (λ (k : ℕ). Left (a .out .now) (a .to) (valuesFrom value s (a .most) (a .from)) (c .before .before .put-value .last .1 .1 .1 .0) (c .before .before .put-value .result) (valuesFrom value s (l .left - 1) k)) d
           (left-next (l .inv .0) x y (c .before .before .put-value .last .1 .1 .1 .0) (c .before .before .put-value .result) e w),
       omega (arith, w .ended, l .inv .1),
     )
@@ -231,7 +230,7 @@ put-items-returns-2 t c =
     left-none (l .inv .0) (items-over value s (l .at) (l .left) (c .loop-test .left))
 
 abbrev put-selected-Inv-loop : put-selected-lts.InvT-loop
-put-selected-Inv-loop s first levels out₀ to left₀ last₀ o₀ out left last o = Left out₀ to (selected (sortedAt levels s) s first (length s) start) out o (selected (sortedAt levels s) s first left (boundOf s last)) × Inside s last
+put-selected-Inv-loop s first levels out₀ to left₀ last₀ o₀ out left last o = Left out₀ to (selected (sortedAt levels s) s first (length s) nothing) out o (selected (sortedAt levels s) s first left (boundOf s last)) × Inside s last
 
 abbrev put-selected-μ-loop : put-selected-lts.MeasureT-loop
 put-selected-μ-loop s first levels out₀ to left₀ last₀ o₀ out left last o = left
@@ -241,7 +240,7 @@ put-selected-loop-holds t c =
     let a = c .before .before .args in
     let s = a .s .now in
     let value = sortedAt (a .levels) s in
-    (left-all (a .out .now) (a .to) (selected value s (a .first) (length s) start) (c .before .before .pre .1), tt)
+    (left-all (a .out .now) (a .to) (selected value s (a .first) (length s) nothing) (c .before .before .pre .1), tt)
 
 put-selected-least-requires : (t : ℕ) → put-selected-lts.Need-least-requires (put-selected-calls t) (put-selected-at t) put-selected.Post put-selected-Inv-loop put-selected-μ-loop
 put-selected-least-requires t c κs = c .before .loop .inv .1
@@ -272,7 +271,7 @@ put-selected-put-items-requires t c κs =
     let b = boundOf s (l .last) in
     let p = c .before .before .before .before .least .result in
     let g = c .before .before .last .given in
-    let x = itemsFrom value s 2 (g .0 .0) in
+    let x = valuesFrom value s 2 (g .0 .0) in
     let y = selected value s (a .first) (l .left - 1) (boundOf s (Pick.Entry (g .0 .0) (g .0 .1 .0) (g .0 .1 .1 .0))) in
     let e = selected-more value s (a .first) b (l .left) p (g .0 .0) (g .0 .1 .0) (g .0 .1 .1 .0) (c .before .before .before .before .before .loop-test .taken) (c .before .before .before .before .least .ensures .0) (g .1) in
     (omega (arith, c .before .before .before .before .before .before .before .before .before .pre .0), (picked-inside s p (g .0 .0) (g .0 .1 .0) (g .0 .1 .1 .0) (g .1) (c .before .before .before .before .least .ensures .1) .0, left-room (l .inv .0) x y e))
@@ -292,7 +291,7 @@ put-selected-loop-again t c =
     let b = boundOf s (l .last) in
     let p = c .before .before .before .before .before .before .before .least .result in
     let g = c .before .before .before .before .before .last .given in
-    let x = itemsFrom value s 2 (g .0 .0) in
+    let x = valuesFrom value s 2 (g .0 .0) in
     let y = selected value s (a .first) (l .left - 1) (boundOf s (Pick.Entry (g .0 .0) (g .0 .1 .0) (g .0 .1 .1 .0))) in
     let e = selected-more value s (a .first) b (l .left) p (g .0 .0) (g .0 .1 .0) (g .0 .1 .1 .0) (c .before .before .before .before .before .before .before .before .loop-test .taken) (c .before .before .before .before .before .before .before .least .ensures .0) (g .1) in
     (left-next (l .inv .0) x y (c .before .before .put-items .last .1 .1 .1 .1 .0) (c .before .before .put-items .result) e (c .before .before .put-items .ensures), picked-inside s p (g .0 .0) (g .0 .1 .0) (g .0 .1 .1 .0) (g .1) (c .before .before .before .before .before .before .before .least .ensures .1))
@@ -347,7 +346,7 @@ put-value-put-items-requires t c κs =
     let a = c .before .before .before .before .before .before .before .before .before .before .before .args in
     let s = a .s .now in
     let f : byteAt s (a .at) ≡ 108 = sym (c .before .before .before .before .before .before .before .before .byte-at .ensures) ∙ c .before .before .before .before .before .before .if2 .taken in
-    let inner = itemsFrom (sortedAt (a .levels - 1) s) s (length s) (a .at + 1) in
+    let inner = valuesFrom (sortedAt (a .levels - 1) s) s (length s) (a .at + 1) in
     let e = above-list (a .levels) s (a .at) (c .before .before .before .before .before .before .before .if1 .left) f in
     (omega (arith, c .before .before .before .before .before .before .before .before .before .before .before .pre .0, c .before .before .before .before .before .before .before .if1 .left), (omega (arith, inside s (a .at) (omega (arith, f))), opened-room (a .out .now) (a .to) 108 inner (sortedAt (a .levels) s (a .at)) e (c .before .before .before .before .before .before .before .before .before .before .before .pre .1) (c .before .before .before .put-bytes .last .0) (c .before .before .before .put-bytes .result) (c .before .before .before .put-bytes .ensures)))
 
@@ -365,7 +364,7 @@ put-value-returns-2 t c =
     let a = c .before .before .before .before .before .before .before .before .before .before .before .before .before .before .before .before .before .before .before .args in
     let s = a .s .now in
     let f : byteAt s (a .at) ≡ 108 = sym (c .before .before .before .before .before .before .before .before .before .before .before .before .before .before .before .before .byte-at .ensures) ∙ c .before .before .before .before .before .before .before .before .before .before .before .before .before .before .if2 .taken in
-    let inner = itemsFrom (sortedAt (a .levels - 1) s) s (length s) (a .at + 1) in
+    let inner = valuesFrom (sortedAt (a .levels - 1) s) s (length s) (a .at + 1) in
     let e = above-list (a .levels) s (a .at) (c .before .before .before .before .before .before .before .before .before .before .before .before .before .before .before .if1 .left) f in
     closed-wrote (a .out .now) (a .to) 108 inner (sortedAt (a .levels) s (a .at)) e (c .before .before .before .before .before .before .before .before .before .before .before .before .before .before .before .before .before .before .before .pre .1) (c .before .before .before .before .before .before .before .before .before .before .before .put-bytes .last .0) (c .before .before .before .before .before .before .before .before .before .before .before .put-bytes .result) (c .before .before .before .before .before .before .before .before .before .before .before .put-bytes .ensures) (c .before .before .before .before .before .before .before .put-items .last .1 .1 .1 .1 .0) (c .before .before .put-bytes2 .last .0) (c .before .before .before .before .before .before .before .put-items .result) (c .before .before .put-bytes2 .result) (c .before .before .before .before .before .before .before .put-items .ensures) (c .before .before .put-bytes2 .ensures)
 
