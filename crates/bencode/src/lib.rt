@@ -25,6 +25,7 @@ mod text;
 mod text_keys;
 mod walk;
 
+pub use depth::Deeper;
 pub use depth::Depth;
 pub use fault::Fault;
 pub use fault::Walk;

@@ -1,4 +1,4 @@
--- To be believed. What the sorter did, as numbers.
+-- To be believed, but for `LimitsAgree`, which is a statement. What the sorter did, as numbers (document 02, request 06).
 -- Assumes nothing.
 use Prim.Native.Nat.{ℕ}
 use mathlib.Core.Path.{_≡_}

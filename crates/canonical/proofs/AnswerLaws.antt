@@ -1,4 +1,4 @@
--- Laws of the sorter's answer, one for each way through `sort`.
+-- Laws of the sorter's answer, one for each way through `sort`, and its answer by the grammar.
 -- Assumes nothing.
 use Prim.Native.Nat.{ℕ, _≤_, _<_}
 use mathlib.Core.Path.{_≡_, refl, sym, ap, ap₂, _∙_}
@@ -52,7 +52,7 @@ module _ (room : ℕ) (s : List ℕ) where
 
       -- what is to be written is as long as the payload
       pub as-long : length (sortedPayload s) ≡ length s
-      as-long = let m = accepted-means Profile.Loose s (walked-whole Profile.Loose s end e) in sorted-length s (m .0) (m .1)
+      as-long = sorted-length s (walked-whole Profile.Loose s end e)
 
       -- it is written
       pub written-leaves : (before after : List ℕ) (count : ℕ) → length before ≡ room → length s ≤ room → Wrote before 0 (sortedPayload s) after count → SortLeaves (sortAnswer room s) (sortedPayload s) before (Sorted.Count count) after

@@ -18,9 +18,9 @@ use Rattle.bencode.proofs.Judgement.{means-one, means-walked}
 use Rattle.bencode.proofs.StrictIsLoose.{strict-is-loose}
 use Rattle.canonical.specs.Order.{sorted}
 use Rattle.canonical.specs.SortWalk.{sortedPayload}
-use Rattle.canonical.specs.Demands.{Accepted, SortsPayload, SortsToOne, SortedIsStrictFor, SortedIsStrict, StrictStays, SortsOnce, OneSorter}
+use Rattle.canonical.specs.Demands.{Accepted, SortsPayload, SortsToOne, SortedIsStrict, SortedLength, StrictStays, SortsOnce, OneSorter}
 use Rattle.canonical.proofs.values.SameLaws.{alike-same, same-alike}
-use Rattle.canonical.proofs.values.Strictly.{stays-sorted, sorted-strict, sorted-twice}
+use Rattle.canonical.proofs.values.Strictly.{strict-unchanged, sorted-strict, sorted-twice}
 use Rattle.canonical.proofs.values.Lengths.{length-sorted}
 use Rattle.canonical.proofs.walks.SortWalks.{sorts-at}
 
@@ -31,12 +31,15 @@ at-front s x e = record { rest = []; is = e ∙ sym (append-nil x); ends = omega
 pub sorts-payload : SortsPayload
 sorts-payload s v m = sorts-at largestDepth v s 0 (length (encode v)) (m .0) (at-front s (encode v) (m .1))
 
-pub sorted-length : (s : List ℕ) (v : Value) → Means Profile.Loose s v → length (sortedPayload s) ≡ length s
-sorted-length s v m = ap length (sorts-payload s v m) ∙ length-sorted v ∙ sym (ap length (m .1))
-
 -- what an accepted payload means
 pub accepted-means : (p : Profile) (s : List ℕ) → Accepted p s → (v : Value) × Means p s v
 accepted-means p s e = let r = accepts-exactly p s .0 e in (r .0, (r .1, r .2))
+
+pub sorted-length : SortedLength
+sorted-length s e =
+    let r = accepted-means Profile.Loose s e in
+    let v = r .0 in
+    ap length (sorts-payload s v (r .1)) ∙ length-sorted v ∙ sym (ap length (r .1 .1))
 
 -- what the strict profile accepts, the loose one accepts
 strict-loose : (s : List ℕ) → Accepted Profile.Strict s → Accepted Profile.Loose s
@@ -60,26 +63,26 @@ sorts-to-one s t v w m n =
 pub sorted-is-strict : SortedIsStrict
 sorted-is-strict s v m =
     let w : Means Profile.Strict (sortedPayload s) (sorted v) = (sorted-strict largestDepth v (m .0), sorts-payload s v m) in
-    (sorted-length s v m, means-walked Profile.Strict (sortedPayload s) (sorted v) w, sorted v, w, alike-same v (sorted v) (sym (sorted-twice largestDepth v (m .0))))
+    (means-walked Profile.Strict (sortedPayload s) (sorted v) w, sorted v, w, alike-same v (sorted v) (sym (sorted-twice largestDepth v (m .0))))
 
 pub strict-stays : StrictStays
 strict-stays s e =
     let r = accepted-means Profile.Strict s e in
     let v = r .0 in
-    sorts-payload s v (strict-means s v (r .1)) ∙ ap encode (stays-sorted largestDepth v (r .1 .0)) ∙ sym (r .1 .1)
+    sorts-payload s v (strict-means s v (r .1)) ∙ ap encode (strict-unchanged largestDepth v (r .1 .0)) ∙ sym (r .1 .1)
 
 pub sorts-once : SortsOnce
 sorts-once s e =
     let r = accepted-means Profile.Loose s e in
-    strict-stays (sortedPayload s) (sorted-is-strict s (r .0) (r .1) .1)
+    strict-stays (sortedPayload s) (sorted-is-strict s (r .0) (r .1) .0)
 
 pub one-sorter : OneSorter
 one-sorter sort h s e =
     let r = accepted-means Profile.Loose s e in
     let v = r .0 in
     let o = h s v (r .1) in
-    let w = o .2 in
-    let strict = o .3 .0 in
-    o .3 .1
-    ∙ ap encode (sym (stays-sorted largestDepth w strict) ∙ sym (same-alike largestDepth v w (r .1 .0) (strict-means (sort s) w (o .3) .0) (o .4)))
+    let w = o .1 in
+    let strict = o .2 .0 in
+    o .2 .1
+    ∙ ap encode (sym (strict-unchanged largestDepth w strict) ∙ sym (same-alike largestDepth v w (r .1 .0) (strict-means (sort s) w (o .2) .0) (o .3)))
     ∙ sym (sorts-payload s v (r .1))

@@ -1,4 +1,5 @@
--- To be believed. The sorter's answer, and the lent bytes after it (document 02, request 06: 4, then 5 to 10, then 44).
+-- `sortAnswer` is pinned by `SortsJudged`; the rest is to be believed. The sorter's answer, and the lent bytes after it (document
+-- 02, request 06: 4, then 5 to 10, then 44).
 -- Assumes nothing.
 use Prim.Native.Nat.{ℕ}
 use mathlib.Core.Path.{_≡_}
@@ -44,7 +45,7 @@ abbrev pub sortCount : Sorted → ℕ
 sortCount (Sorted.Count n) = n
 sortCount (Sorted.Fault f) = 0
 
--- what the sorter did: its answer, also as numbers, and the whole buffer
+-- what the sorter did: its answer, the numbers of that, and the whole buffer
 pub record SortLeaves (answer : Sorted) (bytes before : List ℕ) (r : Sorted) (after : List ℕ) : Type 0 where
   pub answered : r ≡ answer
   pub code : sortCode r ≡ sortCode answer

@@ -56,13 +56,16 @@ SortsToOneFor sort = (s t : List ℕ) (v w : Value) → Means Profile.Loose s v 
 abbrev pub SortsToOne : Type 0
 SortsToOne = SortsToOneFor sortedPayload
 
--- what comes out of an accepted payload is as long, is accepted by the strict profile and means the same value
+-- what comes out of an accepted payload is accepted by the strict profile and means the same value
 abbrev pub SortedIsStrictFor : (List ℕ → List ℕ) → Type 0
-SortedIsStrictFor sort = (s : List ℕ) (v : Value) → Means Profile.Loose s v
-    → (length (sort s) ≡ length s) × Accepted Profile.Strict (sort s) × (w : Value) × Means Profile.Strict (sort s) w × SameValue v w
+SortedIsStrictFor sort = (s : List ℕ) (v : Value) → Means Profile.Loose s v → Accepted Profile.Strict (sort s) × (w : Value) × Means Profile.Strict (sort s) w × SameValue v w
 
 abbrev pub SortedIsStrict : Type 0
 SortedIsStrict = SortedIsStrictFor sortedPayload
+
+-- it is as long
+abbrev pub SortedLength : Type 0
+SortedLength = (s : List ℕ) → Accepted Profile.Loose s → length (sortedPayload s) ≡ length s
 
 -- a payload that the strict profile accepts comes out as it is
 abbrev pub StrictStays : Type 0

@@ -1,5 +1,5 @@
--- To be believed; by `SortsPayload` and `OneSorter` it is the only way to what `SortedIsStrict` says. Putting in order: a value with
--- its dictionaries sorted by key at every level (document 02, request 06).
+-- Pinned, for the values of accepted payloads, by `SortsPayload` and `OneSorter`: no other bytes meet `SortedIsStrict`. Putting
+-- in order: a value with its dictionaries sorted by key at every level (document 02, request 06).
 -- Assumes nothing.
 use Prim.Native.Nat.{ℕ}
 use mathlib.Core.Bool.{cond}

@@ -47,7 +47,7 @@ fn is_below(s: &[u8], best: Pick, start: usize, end: usize) -> bool
 }
 
 // The better of the best entry so far and the one at an offset, whose key goes from start up to end. Where that key is not above
-// the last one written, it is the best one so far.
+// that of the last entry written, the best so far stays.
 fn preferred(s: &[u8], last: Pick, best: Pick, at: usize, start: usize, end: usize) -> Pick
     requires { ⌜ (start ≤ end) × (end ≤ length (now s)) × Inside (now s) last × Inside (now s) best ⌝ }
     ensures { λ r. ⌜ r ≡ preferredAt (now (s .entry)) (boundOf (now (s .entry)) last) best at start end ⌝ }

@@ -21,7 +21,7 @@ pub enum Sorted {
 impl Sorted {
     // The longest payload, in bytes.
     pub const LARGEST: usize = 32768;
-    // A payload is longer.
+    // The payload is longer than that.
     pub const OVER_LIMIT: u8 = 4;
     // Fewer bytes are lent than the payload has.
     pub const NO_ROOM: u8 = 44;

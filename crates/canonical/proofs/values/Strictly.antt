@@ -34,16 +34,17 @@ module _ (formed : Value → Type 0) (stays : (v : Value) → formed v → sorte
       ap₂ (λ (x : Value) (y : Entries). insert k x y) (stays v (a .1)) (entries-stay (k ∷ keys) es (a .2))
       ∙ first-stays formed k keys v es (a .2)
 
-pub stays-sorted : (levels : ℕ) (v : Value) → WellFormed Profile.Strict levels v → sorted v ≡ v
+-- sorting leaves a strict value as it is
+pub strict-unchanged : (levels : ℕ) (v : Value) → WellFormed Profile.Strict levels v → sorted v ≡ v
 unfolding sorted
-stays-sorted zero (integer z) a = refl
-stays-sorted zero (string t) a = refl
-stays-sorted zero (list vs) a = absurd a
-stays-sorted zero (dictionary es) a = absurd a
-stays-sorted (suc levels) (integer z) a = refl
-stays-sorted (suc levels) (string t) a = refl
-stays-sorted (suc levels) (list vs) a = ap list (all-stay (λ v. WellFormed Profile.Strict levels v) (λ v b. stays-sorted levels v b) vs a)
-stays-sorted (suc levels) (dictionary es) a = ap dictionary (entries-stay (λ v. WellFormed Profile.Strict levels v) (λ v b. stays-sorted levels v b) [] es a)
+strict-unchanged zero (integer z) a = refl
+strict-unchanged zero (string t) a = refl
+strict-unchanged zero (list vs) a = absurd a
+strict-unchanged zero (dictionary es) a = absurd a
+strict-unchanged (suc levels) (integer z) a = refl
+strict-unchanged (suc levels) (string t) a = refl
+strict-unchanged (suc levels) (list vs) a = ap list (all-stay (λ v. WellFormed Profile.Strict levels v) (λ v b. strict-unchanged levels v b) vs a)
+strict-unchanged (suc levels) (dictionary es) a = ap dictionary (entries-stay (λ v. WellFormed Profile.Strict levels v) (λ v b. strict-unchanged levels v b) [] es a)
 
 -- ---- what is sorted is strict
 -- every key is above each of some others
@@ -97,4 +98,4 @@ sorted-strict (suc levels) (dictionary es) a = entries-become (λ v. WellFormed 
 
 -- sorting twice changes nothing
 pub sorted-twice : (levels : ℕ) (v : Value) → WellFormed Profile.Loose levels v → sorted (sorted v) ≡ sorted v
-sorted-twice levels v a = stays-sorted levels (sorted v) (sorted-strict levels v a)
+sorted-twice levels v a = strict-unchanged levels (sorted v) (sorted-strict levels v a)

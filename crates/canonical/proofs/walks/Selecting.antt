@@ -40,11 +40,11 @@ abbrev pub Follows : Entries → Bound → Next → Type 0
 Follows es b none = past b (sortedEntries es) ≡ no-entry
 Follows es b (next key v) = past b (sortedEntries es) ≡ entry key (sorted v) (past (upTo key) (sortedEntries es))
 
--- where nothing is written, all entries are past it
-pub past-start : (es : Entries) → past nothing es ≡ es
+-- where nothing has been written, every entry is past the bound
+pub past-nothing : (es : Entries) → past nothing es ≡ es
 unfolding past
-past-start no-entry = refl
-past-start (entry k v es) = ap (entry k v) (past-start es)
+past-nothing no-entry = refl
+past-nothing (entry k v es) = ap (entry k v) (past-nothing es)
 
 -- ---- what the entry that is found has to be
 -- the least among entries past a bound: it is one of them, and no key below it is

@@ -21,7 +21,7 @@ use Rattle.canonical.specs.Order.{insert, sorted, sortedAll, sortedEntri
 use Rattle.canonical.specs.SortWalk.{Bound, nothing, upTo, risesAt, leastAt, chosen, selected, entriesAt, valuesFrom, copiedAt, sortedAt, SortsAt}
 use Rattle.canonical.proofs.values.Inserts.{Above, Rising}
 use Rattle.canonical.proofs.values.Lengths.{length-sorted}
-use Rattle.canonical.proofs.walks.Selecting.{Next, none, next, least, past, Follows, past-start, selects-next}
+use Rattle.canonical.proofs.walks.Selecting.{Next, none, next, least, past, Follows, past-nothing, selects-next}
 use Rattle.canonical.proofs.walks.Standing.{found-rising, Picked, least-picked}
 
 -- ---- how many
@@ -166,7 +166,7 @@ module _ (levels : ℕ) (s : List ℕ) (write : ℕ → List ℕ) (writes : (v :
         go : (t : Bool) → risesAt s first nothing ≡ t → cond t (valuesFrom write s (length s) first) (selected write s first (length s) nothing) ≡ encodeEntries (sortedEntries es)
         go true e = in-order-is (found-rising levels s es first end a h e)
         go false e =
-            let all = past-start (sortedEntries es) in
+            let all = past-nothing (sortedEntries es) in
             selected-is (length s) nothing (omega (arith, ap count all, count-sorted es, count-bytes es, fits)) ∙ ap encodeEntries all
 
 -- ---- values
