@@ -63,7 +63,7 @@ SortedIsStrictFor sort = (s : List ℕ) (v : Value) → Means Profile.Loose s v 
 abbrev pub SortedIsStrict : Type 0
 SortedIsStrict = SortedIsStrictFor sortedPayload
 
--- it is as long
+-- what comes out of an accepted payload is as long as the payload
 abbrev pub SortedLength : Type 0
 SortedLength = (s : List ℕ) → Accepted Profile.Loose s → length (sortedPayload s) ≡ length s
 

@@ -37,7 +37,7 @@ abbrev pub boundOf : List ℕ → Pick → Bound
 boundOf s Pick.None = nothing
 boundOf s (Pick.Entry at begin stop) = upTo (slice s begin stop)
 
--- its key is a part of the payload, and it starts not past the payload's end
+-- its key is a part of the payload, and the entry starts at the payload's end at the latest
 abbrev pub Inside : List ℕ → Pick → Type 0
 Inside s Pick.None = Unit {0}
 Inside s (Pick.Entry at begin stop) = (at ≤ length s) × (begin ≤ stop) × (stop ≤ length s)

@@ -1,4 +1,4 @@
-// A stream of test cases on standard input, numbers and bytes on standard output: what the conformance programs share.
+// A stream of test cases on standard input, numbers, and bytes in hex, on standard output: what the conformance programs share.
 // A case is one byte of operation, a length (4 bytes, little-endian) and as many bytes of body.
 ghost use mathlib.Core.Path.{_≡_};
 ghost use Prim.Native.Nat.{_+_, _*_, _<_};

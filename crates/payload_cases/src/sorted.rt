@@ -1,4 +1,4 @@
-// What the sorter did as a line: `code offset count` and, where it is sorted, the payload in lower case hex digits.
+// What the sorter did as a line: `code offset count` and, where it was accepted, the sorted payload in lower case hex digits.
 use canonical::Sorted;
 use cases::number_of;
 use cases::print;

@@ -14,14 +14,7 @@ use Rattle.canonical.specs.Order.{insert}
 pub found-missing : {P : Type 0} (v : Value) → found v ≡ missing → P
 found-missing v e = let z : _≡_ {A = ℕ} 0 1 = cc in absurd (omega arith)
 
--- a key below another is not the same
-pub less-differs : (j k : List ℕ) → less j k ≡ true → same j k ≡ false
-less-differs j k h = go (same j k) refl
-  where
-    go : (t : Bool) → same j k ≡ t → t ≡ false
-    go true p = clash (less k k) (sym (ap (λ (l : List ℕ). less l k) (same-eq j k p)) ∙ h) (less-irrefl k)
-    go false p = refl
-
+-- a key above another is not the same
 pub more-differs : (j k : List ℕ) → less j k ≡ true → same k j ≡ false
 more-differs j k h = go (same k j) refl
   where
@@ -56,7 +49,8 @@ abbrev pub Rising : Entries → Type 0
 Rising no-entry = Unit {0}
 Rising (entry k v es) = Above k es × Rising es
 
-above-trans : (k j : List ℕ) (es : Entries) → less k j ≡ true → Above j es → Above k es
+-- what is below a key that all are above, all are above too
+pub above-trans : (k j : List ℕ) (es : Entries) → less k j ≡ true → Above j es → Above k es
 above-trans k j no-entry h a = tt
 above-trans k j (entry i w es) h a = (less-trans k j i h (a .0), above-trans k j es h (a .1))
 

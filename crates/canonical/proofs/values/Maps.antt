@@ -6,20 +6,16 @@ use mathlib.Core.Bool.{Bool, true, false, cond}
 use mathlib.Core.List.{List}
 use Rattle.octets.specs.Bytes.{same, less}
 use Rattle.bencode.specs.Value.{Value, Entries, no-entry, entry, found, missing, lookup}
-use Rattle.octets.proofs.sequences.Order.{same-eq, same-refl, less-total, less-trans}
-use Rattle.canonical.proofs.values.Inserts.{found-missing, Above, Rising, above-missing}
+use Rattle.octets.proofs.sequences.Order.{same-eq, same-refl, less-total}
+use Rattle.canonical.proofs.values.Inserts.{found-missing, Above, Rising, above-trans, above-missing}
 
 -- an entry's own key finds its value
-own : (k : List ℕ) (v : Value) (es : Entries) → lookup k (entry k v es) ≡ found v
+pub own : (k : List ℕ) (v : Value) (es : Entries) → lookup k (entry k v es) ≡ found v
 own k v es = rw (same-refl k) refl
 
 -- a key below all of them is not found
 below-missing : (k j : List ℕ) (w : Value) (fs : Entries) → less k j ≡ true → Above j fs → lookup k (entry j w fs) ≡ missing
-below-missing k j w fs h a = above-missing k (entry j w fs) (h, up fs a)
-  where
-    up : (gs : Entries) → Above j gs → Above k gs
-    up no-entry a = tt
-    up (entry i u gs) a = (less-trans k j i h (a .0), up gs (a .1))
+below-missing k j w fs h a = above-missing k (entry j w fs) (h, above-trans k j fs h a)
 
 -- the same map has the same first key
 first-key : (k j : List ℕ) (v w : Value) (es fs : Entries) → Above k es → Above j fs → ((key : List ℕ) → lookup key (entry k v es) ≡ lookup key (entry j w fs)) → k ≡ j

@@ -11,7 +11,7 @@ use Rattle.octets.proofs.sequences.Order.{clash, same-eq, same-refl, less-trans
 use Rattle.canonical.specs.Order.{sorted, sortedEntries}
 use Rattle.canonical.specs.SortWalk.{Bound, nothing, upTo, isPast}
 use Rattle.canonical.proofs.values.Inserts.{Above, Rising, more-differs}
-use Rattle.canonical.proofs.values.Maps.{one-map}
+use Rattle.canonical.proofs.values.Maps.{own, one-map}
 use Rattle.canonical.proofs.values.SameLaws.{sortedFound, lookup-sorted, sorted-rises}
 
 -- ---- the next entry of a list of entries
@@ -115,9 +115,6 @@ least-over : (b : Bound) (k : List ℕ) (v : Value) (es : Entries) (r : Next) �
 least-over b k v es none q h = λ j p. passed-over j k v es (other-side b j k p q) ∙ h j p
 least-over b k v es (next i w) q h =
     (h .0, passed-over i k v es (other-side b i k (h .0) q) ∙ h .1, λ j p l. passed-over j k v es (other-side b j k p q) ∙ h .2 j p l)
-
-own : (k : List ℕ) (v : Value) (es : Entries) → lookup k (entry k v es) ≡ found v
-own k v es = rw (same-refl k) refl
 
 least-with : (b : Bound) (k : List ℕ) (v : Value) (es : Entries) (r : Next) → isPast b k ≡ true → IsLeast b es r → IsLeast b (entry k v es) (combine (next k v) r)
 least-with b k v es none q h = (q, own k v es, λ j p l. passed-over j k v es (more-differs j k l) ∙ h j p)

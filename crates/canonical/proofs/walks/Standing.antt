@@ -15,7 +15,7 @@ use Rattle.bencode.specs.Loop as Loop
 use Rattle.bencode.specs.Strings.{stringAt}
 use Rattle.bencode.specs.Skip.{skipValue}
 use Rattle.bencode.specs.Value.{Value, Entries, no-entry, entry, encodeString, encode, encodeEntries, AllEntries, WellFormed}
-use Rattle.octets.proofs.sequences.Order.{clash, less-trans}
+use Rattle.octets.proofs.sequences.Order.{clash}
 use Rattle.octets.proofs.sequences.BeginsLaws.{begins-left, begins-right, begins-head}
 use Rattle.bencode.proofs.values.Encodings.{entries-text}
 use Rattle.bencode.proofs.values.FirstBytes.{no-string}
@@ -23,7 +23,7 @@ use Rattle.bencode.proofs.values.ScalarReads.{string-reads}
 use Rattle.bencode.proofs.Lookups.{skips-value}
 use Rattle.canonical.specs.declared.select.Pick.{Pick}
 use Rattle.canonical.specs.SortWalk.{Bound, nothing, upTo, isPast, riseText, risesAt, betterAt, leastText, leastAt}
-use Rattle.canonical.proofs.values.Inserts.{Above, Rising}
+use Rattle.canonical.proofs.values.Inserts.{Above, Rising, above-trans}
 use Rattle.canonical.proofs.walks.Selecting.{Next, none, next, better, least}
 use Rattle.canonical.proofs.walks.Steps.{rise-step, least-step}
 
@@ -83,17 +83,13 @@ module _ (levels : ℕ) (s : List ℕ) (end : ℕ) where
           → afterStep (riseText s b (Text.Bytes begin stop)) (λ to y. risesAt s to y) ≡ cond (isPast b k) (risesIn (upTo k) es) false
       go begin stop i j rec = rw (i, j) (each stop (isPast b k) rec)
 
-above-more : (k j : List ℕ) (es : Entries) → less k j ≡ true → Above j es → Above k es
-above-more k j no-entry h a = tt
-above-more k j (entry i w es) h a = (less-trans k j i h (a .0), above-more k j es h (a .1))
-
 rises-above : (k : List ℕ) (es : Entries) → risesIn (upTo k) es ≡ true → Above k es × Rising es
 unfolding risesIn
 rises-above k no-entry e = (tt, tt)
 rises-above k (entry j w es) e = go (less k j) refl e (λ q. rises-above j es q)
   where
     go : (t : Bool) → less k j ≡ t → cond t (risesIn (upTo j) es) false ≡ true → (risesIn (upTo j) es ≡ true → Above j es × Rising es) → Above k (entry j w es) × Rising (entry j w es)
-    go true p e rec = let r = rec e in ((p, above-more k j es p (r .0)), (r .0, r .1))
+    go true p e rec = let r = rec e in ((p, above-trans k j es p (r .0)), (r .0, r .1))
     go false p e rec = clash false e refl
 
 rises-rising : (es : Entries) → risesIn nothing es ≡ true → Rising es
