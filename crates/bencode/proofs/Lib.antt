@@ -17,3 +17,4 @@ pub mod Tried
 pub mod Worthless
 pub mod KeyRule
 pub mod StrictIsLoose
+pub mod SamePayload

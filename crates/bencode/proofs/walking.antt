@@ -5,3 +5,4 @@ pub mod WalkLaws
 pub mod MarkLaws
 pub mod KeyOrder
 pub mod KeyLaws
+pub mod FlatLaws

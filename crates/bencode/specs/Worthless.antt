@@ -1,12 +1,19 @@
--- Statements: wrong builds fall by the demand itself (document 02, request 03).
+-- Statements: wrong builds fall by the demand itself (document 02, requests 03 and 09).
 -- Assumes nothing.
 use Prim.Native.Nat.{ℕ}
 use mathlib.Core.Path.{_≡_}
-use mathlib.Core.Bool.{Bool, true, _&&_}
+use mathlib.Core.Bool.{Bool, true, cond, _&&_}
 use mathlib.Core.List.{List, [], _∷_}
-use lib.Dec.{leb}
+use lib.Dec.{leb, ltb}
+use lib.ListN.{length, replicate}
+use Rattle.bencode.specs.declared.fault.Walk.{Walk}
+use Rattle.bencode.specs.declared.profile.Profile.{Profile}
+use Rattle.bencode.specs.Letters.{letterL}
+use Rattle.bencode.specs.Depth.{largestDepth}
+use Rattle.bencode.specs.Flat.{outside, Open, turn}
+use Rattle.bencode.specs.Loop.{LoopStep, next, done}
 use Rattle.bencode.specs.Utf8.{isText}
-use Rattle.bencode.specs.Demands.{KeyTextFor}
+use Rattle.bencode.specs.Demands.{KeyTextFor, SamePayloadFor}
 
 -- a recogniser that differs from ours, be it on one key only
 abbrev pub DifferentFalls : Type 0
@@ -24,3 +31,44 @@ isAscii (b ∷ bs) = (leb 1 b && leb b 0x7F) && isAscii bs
 -- a recogniser that takes those alone
 abbrev pub AsciiAloneFalls : Type 0
 AsciiAloneFalls = KeyTextFor isAscii → ⊥
+
+-- ---- request 09: walks by one loop
+-- a turn of ours after which what is open is altered, by what was open before and what is open after it
+abbrev pub alteredStep : (Open → Open) → LoopStep Open Walk → LoopStep Open Walk
+alteredStep alter (next at x) = next at (alter x)
+alteredStep alter (done walk) = done walk
+
+abbrev pub altered : (Open → Open → Open) → Profile → List ℕ → ℕ → Open → LoopStep Open Walk
+altered alter p s at x = alteredStep (alter x) (turn p s at x)
+
+-- the row forgets the outer levels
+abbrev pub forgotten : Open → Open → Open
+forgotten before after = record { row = replicate largestDepth outside; depth = after .depth; level = after .level; valued = after .valued }
+
+abbrev pub RowForgottenFalls : Type 0
+RowForgottenFalls = SamePayloadFor (altered forgotten) → ⊥
+
+-- the mark of a dictionary is taken for a list's
+abbrev pub listMarked : Open → Open → Open
+listMarked before after = record { row = after .row; depth = after .depth; level = record { mark = letterL; seen = after .level .seen }; valued = after .valued }
+
+abbrev pub DictionaryAsListFalls : Type 0
+DictionaryAsListFalls = SamePayloadFor (altered listMarked) → ⊥
+
+-- a level that closes leaves its keys to the outer one
+abbrev pub levelLeft : Open → Open → Open
+levelLeft before after = cond (ltb (after .depth) (before .depth)) (record { row = after .row; depth = after .depth; level = before .level; valued = after .valued }) after
+
+abbrev pub InnerKeysKeptFalls : Type 0
+InnerKeysKeptFalls = SamePayloadFor (altered levelLeft) → ⊥
+
+-- a level that opens is not counted
+abbrev pub uncounted : Open → Open → Open
+uncounted before after = cond (ltb (before .depth) (after .depth)) (record { row = after .row; depth = before .depth; level = after .level; valued = after .valued }) after
+
+abbrev pub LevelUncountedFalls : Type 0
+LevelUncountedFalls = SamePayloadFor (altered uncounted) → ⊥
+
+-- a walk that accepts everything
+abbrev pub EverythingFalls : Type 0
+EverythingFalls = SamePayloadFor (λ p s at x. done (Walk.End (length s))) → ⊥

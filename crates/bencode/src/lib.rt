@@ -5,6 +5,7 @@ mod depth;
 mod entry;
 mod fault;
 mod field;
+pub mod flat;
 mod integers;
 mod item;
 mod key;

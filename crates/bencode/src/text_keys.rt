@@ -13,7 +13,7 @@ use super::strings::string;
 use super::text::is_text;
 
 // The fault of a key at an offset that is no text: at its first length digit.
-fn ill_formed_key(at: usize) -> Fault
+pub fn ill_formed_key(at: usize) -> Fault
     ensures { λ r. ⌜ r ≡ fault 10 at ⌝ }
 {
     Fault {

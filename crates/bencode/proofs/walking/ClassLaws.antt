@@ -47,7 +47,7 @@ sign-no-digit c s =
     one k h e = ap isDigit (eqb-true c k e) ∙ h
 
 -- a byte is a sign exactly if its class is
-sign-class : (c : ℕ) → isSign c ≡ true → (b : ℕ) → eqb (classOf b) c ≡ eqb b c
+pub sign-class : (c : ℕ) → isSign c ≡ true → (b : ℕ) → eqb (classOf b) c ≡ eqb b c
 sign-class c s b = go (isDigit b) refl (isSign b) refl
   where
     no : (k : ℕ) → isSign k ≡ false → k ≡ c → ⊥

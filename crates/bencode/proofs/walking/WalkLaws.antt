@@ -13,14 +13,14 @@ use Rattle.bencode.specs.declared.strings.Text.{Text}
 use Rattle.bencode.specs.declared.fault.Walk.{Walk}
 use Rattle.bencode.specs.declared.profile.Profile.{Profile}
 use Rattle.octets.specs.Bytes.{byteAt, slice}
-use Rattle.bencode.specs.Fault.{fault}
+use Rattle.bencode.specs.Fault.{fault, codeOf, offsetOf}
 use Rattle.bencode.specs.Strings.{stringAt}
 use Rattle.bencode.specs.Loop.{next, done, afterStep, Past, Onward}
 use Rattle.bencode.specs.Utf8.{isText}
 use Rattle.bencode.specs.Key.{keyFault}
 use Rattle.bencode.specs.KeySearch.{asKey, keyTextAt}
 use Rattle.bencode.specs.Scalar.{scalarAt}
-use Rattle.bencode.specs.Walk.{onward, listStep, listFrom, entryStep, dictionaryStep, dictionaryFrom, valueAt, listAt, dictionaryAt}
+use Rattle.bencode.specs.Walk.{onward, listStep, listFrom, entryStep, dictionaryStep, dictionaryFrom, valueAt, listAt, dictionaryAt, payloadAt, payloadCode, payloadOffset}
 use Rattle.octets.proofs.digits.NumeralLaws.{inside}
 use Rattle.bencode.proofs.loops.LoopLaws.{repeat-step, repeat-end}
 use Rattle.bencode.proofs.walking.Ends.{string-whole-inv, scalar-ends}
@@ -208,3 +208,8 @@ module _ (p : Profile) (levels : ℕ) (s : List ℕ) (at : ℕ) where
 
           pub dictionary-more : (to : ℕ) → valueAt p levels s end ≡ Walk.End to → dictionaryFrom p (valueAt p levels s) s to (slice s start end ∷ keys) ≡ dictionaryFrom p (valueAt p levels s) s at keys
           dictionary-more to e = any-dictionary-more s (valueAt p levels s) (value-ends p levels s) p at keys b start end text to k e
+
+-- document 01's numbers follow from what the walk finds
+pub numbered : (p : Profile) (s : List ℕ) {r : Walk} → r ≡ payloadAt p s → (r ≡ payloadAt p s) × ((codeOf r ≡ payloadCode p s) × (offsetOf r ≡ payloadOffset p s))
+unfolding payloadCode payloadOffset
+numbered p s e = (e, (ap codeOf e, ap offsetOf e))

@@ -1,13 +1,10 @@
 -- `bencode::walk::payload` meets its contract: it is `whole` of what its value comes to.
 -- Assumes nothing.
 use Prim.Native.Nat.{ℕ, _-_}
-use mathlib.Core.Path.{_≡_, ap, _∙_}
-use mathlib.Core.List.{List}
-use Rattle.bencode.specs.declared.fault.Walk.{Walk}
-use Rattle.bencode.specs.declared.profile.Profile.{Profile}
+use mathlib.Core.Path.{ap, _∙_}
 use Rattle.bencode.specs.Depth.{largestDepth}
-use Rattle.bencode.specs.Fault.{codeOf, offsetOf}
-use Rattle.bencode.specs.Walk.{valueAt, whole, payloadAt, payloadCode, payloadOffset}
+use Rattle.bencode.specs.Walk.{valueAt, whole, payloadAt}
+use Rattle.bencode.proofs.walking.WalkLaws.{numbered}
 use borrow.Author.Needs.{needs}
 use Rattle.bencode.proofs.walk.payload.Statement.{statement}
 use Rattle.bencode.proofs.walk.payload.Tie as tie
@@ -23,11 +20,6 @@ value-requires c κs = search needs
 
 whole-requires : tie.Need-whole-requires
 whole-requires c κs = search needs
-
--- document 01's numbers follow from what the walk finds
-numbered : (p : Profile) (s : List ℕ) {r : Walk} → r ≡ payloadAt p s → (r ≡ payloadAt p s) × ((codeOf r ≡ payloadCode p s) × (offsetOf r ≡ payloadOffset p s))
-unfolding payloadCode payloadOffset
-numbered p s e = (e, (ap codeOf e, ap offsetOf e))
 
 returns : tie.Need-returns
 unfolding payloadAt
