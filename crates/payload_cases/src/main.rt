@@ -1,4 +1,5 @@
-// Answers a stream of cases, a line for each: `l` walks a payload in the loose profile, `s` in the strict one, `o` sorts it.
+// Answers a stream of cases, a line for each: `l` walks a payload in the loose profile, `s` in the strict one, `L` and `S` the same
+// by the walk with one loop; `o` sorts it.
 mod sorted;
 
 use bencode::Profile;
@@ -15,8 +16,8 @@ fn print_line(code: u8, offset: usize) {
 }
 
 // 0 and the payload's length, or the fault's code and offset.
-fn print_walk(payload: &[u8], profile: Profile) {
-    match bencode::payload(payload, profile) {
+fn print_walk(walk: Walk) {
+    match walk {
         Walk::End(end) => print_line(0, end),
         Walk::Fault(f) => print_line(f.code, f.offset),
     }
@@ -26,11 +27,19 @@ fn print_walk(payload: &[u8], profile: Profile) {
 fn answer_case(operation: u8, body: &[u8], out: &mut [u8]) -> bool {
     match operation {
         b'l' => {
-            print_walk(body, Profile::Loose);
+            print_walk(bencode::payload(body, Profile::Loose));
             true
         }
         b's' => {
-            print_walk(body, Profile::Strict);
+            print_walk(bencode::payload(body, Profile::Strict));
+            true
+        }
+        b'L' => {
+            print_walk(bencode::flat::payload(body, Profile::Loose));
+            true
+        }
+        b'S' => {
+            print_walk(bencode::flat::payload(body, Profile::Strict));
             true
         }
         b'o' => print_sorted(body, out),
