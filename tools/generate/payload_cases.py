@@ -3,11 +3,16 @@
 A case is one byte of operation, a length in 4 bytes, little-endian, and so
 many bytes of body. Operations: l and s walk a payload in the loose and in the
 strict profile, and their line is the code and the offset that
-oracle.payload.walk gives; o sorts one, and its line is that of
+oracle.payload.walk gives; L and S are the same by the walker with one loop,
+on every payload of l and of s; o sorts one, and its line is that of
 oracle.canonical. The last case is cut short.
 
 In tools/, python3 -B -m generate.payload_cases FOLDER writes FOLDER/stdin and
 FOLDER/stdout: the same on every run, since all choices come from a fixed seed.
+With a number N after FOLDER it writes every N-th case only, and the cut one,
+for `rt try`, where what a program prints and the steps it takes are bounded:
+151 is within the bounds. An odd N meets both profiles, which often stand by
+turns.
 """
 
 import itertools
@@ -21,14 +26,14 @@ from generate.encoded import (
     string)
 from generate.key_texts import (
     CHOSEN, KEY_TEXTS, MIDDLES, damaged, random_key, run)
+from generate.level_cases import level_payloads
 from generate.sort_cases import case, largest_cases, sort_cases
 from generate.value_pairs import value_pairs
 from oracle.canonical import line, same_value, sort
 from oracle.payload import walk
 
 MAX_BODY = 131072
-SIZE_LIMIT = 3000000
-LINES_LIMIT = 1040000  # a program that is tried may print 1 MiB
+SIZE_LIMIT = 6000000
 
 
 # Named payloads.
@@ -620,33 +625,43 @@ def line_of(operation, body):
         if text.startswith("0 "):
             hold_sorted(body[4:], bytes.fromhex(text.split()[3]))
         return text
-    return "%d %d" % walk(body, operation == b"s")
+    return "%d %d" % walk(body, operation in b"sS")
 
 
-def main(folder):
-    walked, pairs = all_cases(), {}
+def with_flat(cases):
+    """The cases, then each walk among them by the walker with one loop."""
+    cases = list(cases)
+    yield from cases
+    for operation, payload in dict.fromkeys(cases):
+        if operation in b"ls":
+            yield operation.upper(), payload
+
+
+def made_cases(pairs):
+    """All cases but the cut one. New ones stand after all older ones."""
+    walked = all_cases()
     sorting = dict.fromkeys(sort_cases([payload for _, payload in walked]))
-    made = itertools.chain(
-        walked, (each for each in sorting if each not in walked),
-        pair_cases(pairs), largest_cases())
-    cases, lines, counts = bytearray(), bytearray(), {}
-    for operation, body in made:
-        assert len(body) <= MAX_BODY
-        text = line_of(operation, body)
-        cases += operation + struct.pack("<I", len(body)) + body
-        lines += text.encode() + b"\n"
-        row = counts.setdefault(int(text.split()[0]), dict.fromkeys("lso", 0))
-        row[operation.decode()] += 1
-    cases += b"l" + struct.pack("<I", 5) + b"i1"
-    lines += b"case fault\n"
-    assert len(cases) <= SIZE_LIMIT and len(lines) <= LINES_LIMIT
-    (folder / "stdin").write_bytes(cases)
-    (folder / "stdout").write_bytes(lines)
+    older = [*walked, *(each for each in sorting if each not in walked),
+             *pair_cases(pairs), *largest_cases()]
+    levels = dict.fromkeys(itertools.product(level_payloads(), (b"l", b"s")))
+    known = set(older)
+    return with_flat(itertools.chain(older, (
+        (operation, payload) for payload, operation in levels
+        if (operation, payload) not in known)))
+
+
+TITLES = {"l": "loose", "s": "strict", "L": "flat loose", "S": "flat strict",
+          "o": "sorted"}
+
+
+def print_counts(counts, pairs):
     total = sum(n for row in counts.values() for n in row.values())
-    print(total, "cases and a cut one; bytes:", len(cases), len(lines))
-    for code, row in sorted(counts.items()):
-        print("code %2d: loose %5d, strict %5d, sorted %5d" % (
-            code, row["l"], row["s"], row["o"]))
+    print(total, "cases and a cut one")
+    for code, row in [*sorted(counts.items()), ("all", {
+            each: sum(row[each] for row in counts.values())
+            for each in TITLES})]:
+        print("code %3s: %s" % (code, ", ".join(
+            "%s %5d" % (title, row[each]) for each, title in TITLES.items())))
     print("pairs: same %d, other %d" % (
         sum(row[1] for row in pairs.values()),
         sum(row[0] for row in pairs.values())))
@@ -654,7 +669,25 @@ def main(folder):
         print("%-16s same %4d, other %4d" % (kind, row[1], row[0]))
 
 
+def main(folder, step):
+    cases, lines, counts, pairs = bytearray(), bytearray(), {}, {}
+    for operation, body in itertools.islice(made_cases(pairs), 0, None, step):
+        assert len(body) <= MAX_BODY
+        text = line_of(operation, body)
+        cases += operation + struct.pack("<I", len(body)) + body
+        lines += text.encode() + b"\n"
+        row = counts.setdefault(int(text.split()[0]), dict.fromkeys(TITLES, 0))
+        row[operation.decode()] += 1
+    cases += b"l" + struct.pack("<I", 5) + b"i1"
+    lines += b"case fault\n"
+    assert len(cases) < SIZE_LIMIT
+    (folder / "stdin").write_bytes(cases)
+    (folder / "stdout").write_bytes(lines)
+    print_counts(counts, pairs)
+    print("bytes:", len(cases), len(lines))
+
+
 if __name__ == "__main__":
-    if len(sys.argv) != 2:
-        sys.exit("usage: python3 -B -m generate.payload_cases FOLDER")
-    main(pathlib.Path(sys.argv[1]))
+    if not 2 <= len(sys.argv) <= 3:
+        sys.exit("usage: python3 -B -m generate.payload_cases FOLDER [N]")
+    main(pathlib.Path(sys.argv[1]), int((*sys.argv, 1)[2]))
