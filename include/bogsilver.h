@@ -161,6 +161,12 @@ struct bogsilver_answer bogsilver_read_strict(const uint8_t *bytes, size_t lengt
 struct bogsilver_walk_answer bogsilver_walk(const uint8_t *bytes, size_t length, bool strict);
 
 /*
+ * Walks as bogsilver_walk, by one loop: the same answer on every input. No function in it calls itself, even through others,
+ * and its stack is NNN bytes whatever the payload. For callers with little stack.
+ */
+struct bogsilver_walk_answer bogsilver_walk_flat(const uint8_t *bytes, size_t length, bool strict);
+
+/*
  * Writes a message at the front of out. The value is by its kind nothing, the integer, or the bytes as the reader would
  * name them: a text, or a list as it is encoded. A tag of 0 is none. Refused in this order: 40, 41, 42, 43, 44. A
  * refusal leaves out as it was; else the bytes after the frame are as they were.

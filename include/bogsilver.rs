@@ -173,6 +173,7 @@ extern "C" {
     fn bogsilver_read(bytes: *const u8, length: usize) -> Answer;
     fn bogsilver_read_strict(bytes: *const u8, length: usize) -> Answer;
     fn bogsilver_walk(bytes: *const u8, length: usize, strict: bool) -> WalkAnswer;
+    fn bogsilver_walk_flat(bytes: *const u8, length: usize, strict: bool) -> WalkAnswer;
     fn bogsilver_write(
         key: u32,
         kind: u32,
@@ -203,6 +204,12 @@ pub fn read_strict(bytes: &[u8]) -> Answer {
 pub fn walk(payload: &[u8], strict: bool) -> WalkAnswer {
     // SAFETY: the pointer and the length are those of one slice.
     unsafe { bogsilver_walk(payload.as_ptr(), payload.len(), strict) }
+}
+
+/// The same walk by one loop: the answer of `walk` on every payload, no function that calls itself, and NNN bytes of stack.
+pub fn walk_flat(payload: &[u8], strict: bool) -> WalkAnswer {
+    // SAFETY: the pointer and the length are those of one slice.
+    unsafe { bogsilver_walk_flat(payload.as_ptr(), payload.len(), strict) }
 }
 
 /// The key is one of the numbers above, or any u32; a bare number needs its type, as `14u32`.

@@ -1,8 +1,8 @@
 /*
  * Answers a stream of stored cases through include/bogsilver.h, a line each: `cases frame` those of frame_cases (`r` and `R`
  * read, in the loose and in the strict profile, `w` write, `s` handshake, `a` agreed version), `cases payload` those of
- * payload_cases (`l` and `s`, a walk in the loose and in the strict profile, `o` sort). Before each write the buffer is filled
- * with a pattern, and a byte that should have stayed and did not is said in the line.
+ * payload_cases (`l` and `s`, a walk in the loose and in the strict profile, `L` and `S`, the same by one loop, `o` sort).
+ * Before each write the buffer is filled with a pattern, and a byte that should have stayed and did not is said in the line.
  */
 #include "bogsilver.h"
 
@@ -104,9 +104,8 @@ static int print_sorted(size_t length)
     return 1;
 }
 
-static int print_walk(size_t length, bool strict)
+static int print_walk(struct bogsilver_walk_answer w)
 {
-    struct bogsilver_walk_answer w = bogsilver_walk(body, length, strict);
     printf("%u %zu\n", w.code, w.offset);
     return 1;
 }
@@ -114,8 +113,10 @@ static int print_walk(size_t length, bool strict)
 static int answer_payload(int operation, size_t length)
 {
     switch (operation) {
-    case 'l': return print_walk(length, false);
-    case 's': return print_walk(length, true);
+    case 'l': return print_walk(bogsilver_walk(body, length, false));
+    case 's': return print_walk(bogsilver_walk(body, length, true));
+    case 'L': return print_walk(bogsilver_walk_flat(body, length, false));
+    case 'S': return print_walk(bogsilver_walk_flat(body, length, true));
     case 'o': return print_sorted(length);
     default: return 0;
     }
