@@ -1,4 +1,5 @@
-"""Wrong sorters and wrong strict readers, held against the stored cases.
+"""Wrong sorters, strict readers and walkers with one loop, held against the
+stored cases.
 
 Each one is a build with one mistake. Prints how many lines of the stored
 cases it gets wrong, and fails if there is one that gets none wrong: then the
@@ -11,6 +12,7 @@ import pathlib
 import struct
 import sys
 
+from check.wrong_walkers import Flat
 from oracle import frame, payload
 from oracle.canonical import LARGEST_PAYLOAD, Reader
 from oracle.payload import Fault, Parser, is_text, walk
@@ -436,6 +438,11 @@ def reader_line(parser):
     return line
 
 
+def flat_line(build):
+    """A walker's line, of a body and whether the profile is strict."""
+    return lambda case: build(*case).line()
+
+
 def subclasses(kind):
     for each in kind.__subclasses__():
         yield each
@@ -450,16 +457,20 @@ def main():
     missed = 0
     sorting = list(stored("payload_cases", b"o"))
     reading = list(stored("frame_cases", b"R"))
+    walking = [((body, operation == b"S"), text) for operation in (b"L", b"S")
+               for body, text in stored("payload_cases", operation)]
     assert wrong_lines(Sorter().line, sorting) == 0
     assert wrong_lines(reader_line(Keys), reading) == 0
+    assert walking and wrong_lines(flat_line(Flat), walking) == 0
     for title, kind, cases, line_of in (
             ("sorters", Sorter, sorting, lambda build: build().line),
-            ("strict readers", Keys, reading, reader_line)):
+            ("strict readers", Keys, reading, reader_line),
+            ("walkers with one loop", Flat, walking, flat_line)):
         print("%s, %d cases" % (title, len(cases)))
         for build in subclasses(kind):
             wrong = wrong_lines(line_of(build), cases)
             missed += not wrong
-            print("  %-18s %5d wrong" % (build.__name__, wrong))
+            print("  %-22s %5d wrong" % (build.__name__, wrong))
     sys.exit(1 if missed else 0)
 
 
