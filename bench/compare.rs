@@ -1,7 +1,8 @@
-//! Compares the proved walker with the one in ordinary Rust: the same code and offset for each payload.
+//! Compares the proved walkers, nested and with one loop, with the one in ordinary Rust and with each other: the same code and
+//! offset for each payload.
 
 use crate::random::{self, Random};
-use crate::{proved, walker};
+use crate::{flat, proved, walker};
 
 const RANDOM_PAYLOADS: usize = 3_000_000;
 
@@ -93,9 +94,10 @@ impl Tally {
         self.payloads += 1;
         for strict in [false, true] {
             let (found, wanted) = (proved(payload, strict), walker::walk(payload, strict));
-            if found != wanted {
+            let looped = flat(payload, strict);
+            if found != wanted || looped != wanted {
                 println!(
-                    "difference, strict {strict}: proved {found:?}, Rust {wanted:?}, payload {}",
+                    "difference, strict {strict}: proved {found:?}, with one loop {looped:?}, Rust {wanted:?}, payload {}",
                     hex(payload)
                 );
                 std::process::exit(1);
@@ -120,14 +122,17 @@ pub fn run() {
         random::payload(&mut random, &mut payload);
         tally.check(&payload);
     }
-    println!("{} payloads in two profiles: no difference", tally.payloads);
+    println!(
+        "{} payloads in two profiles by three walkers: no difference",
+        tally.payloads
+    );
     for code in CODES {
         println!("code {code:2}: {} answers", tally.answers[code]);
         assert!(tally.answers[code] > 1000, "code {code} is hardly tried");
     }
 }
 
-/// The samples have the answers of the rules, from both walkers.
+/// The samples have the answers of the rules, from all walkers.
 fn samples(tally: &mut Tally) {
     for (table, strict) in [(SAMPLES, false), (STRICT_SAMPLES, true)] {
         for (text, code, offset) in table {

@@ -1,4 +1,4 @@
-//! Compares the proved payload walker, frame reader, frame writer and sorter with ones in ordinary Rust, in their answers and
+//! Compares the proved payload walkers, frame reader, frame writer and sorter with ones in ordinary Rust, in their answers and
 //! in their time.
 
 mod beside;
@@ -34,6 +34,12 @@ fn proved(payload: &[u8], strict: bool) -> (u8, usize) {
     (answer.code, answer.offset)
 }
 
+/// Those of the proved walker with one loop.
+fn flat(payload: &[u8], strict: bool) -> (u8, usize) {
+    let answer = bogsilver::walk_flat(payload, strict);
+    (answer.code, answer.offset)
+}
+
 fn main() {
     let mut modes: Vec<String> = std::env::args().skip(1).collect();
     if modes.is_empty() {
@@ -51,10 +57,11 @@ fn main() {
                 frame_time::run();
                 sort_time::run();
             }
+            "walk" => time::run(),
             "sort" => sort_time::run(),
             "beside" => beside::run(),
             _ => {
-                eprintln!("usage: bench/run.sh [compare] [time] [sort] [beside]");
+                eprintln!("usage: bench/run.sh [compare] [time] [walk] [sort] [beside]");
                 std::process::exit(2);
             }
         }

@@ -1,7 +1,7 @@
 #!/bin/sh
-# Compares and times the proved payload walker, frame reader, frame writer and sorter against those in ordinary Rust beside it.
-# Usage: [BEFORE=FILE.a] [PLAIN=1] bench/run.sh [compare] [time] [sort] [beside]; with no argument compare and time.
-# sort: the times of the sorters alone, a part of time.
+# Compares and times the proved payload walkers, frame reader, frame writer and sorter against those in ordinary Rust beside it.
+# Usage: [BEFORE=FILE.a] [PLAIN=1] bench/run.sh [compare] [time] [walk] [sort] [beside]; with no argument compare and time.
+# walk, sort: the times of the walkers alone, the nested one and the one with one loop, and of the sorters: parts of time.
 # beside: the frame readers in one table, with libtorrent's bdecode where it is installed (Debian: g++ and
 # libtorrent-rasterbar-dev), and with the earlier build of the library that BEFORE names.
 # PLAIN: the Rust side without its words to the compiler on what to inline, which Rattle does not have.

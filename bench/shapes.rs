@@ -171,6 +171,27 @@ pub fn nested_rising(size: usize) -> Vec<u8> {
     })
 }
 
+/// A list of values that each open fifteen more levels.
+pub fn deep_lists(size: usize) -> Vec<u8> {
+    fill(size, "l", "e", |_| "l".repeat(15) + &"e".repeat(15))
+}
+
+/// The same with dictionaries of one entry, but for the innermost.
+pub fn deep_dictionaries(size: usize) -> Vec<u8> {
+    fill(size, "l", "e", |_| {
+        "d1:k".repeat(14) + "d" + &"e".repeat(15)
+    })
+}
+
+/// The shortest payloads: one integer, and sixteen levels with nothing else.
+pub fn short() -> Vec<(&'static str, Vec<u8>)> {
+    vec![
+        ("one integer", b"i7e".to_vec()),
+        ("16 lists", [b"l".repeat(16), b"e".repeat(16)].concat()),
+        ("16 dictionaries", inside(b"de".to_vec())),
+    ]
+}
+
 /// Dictionaries in each other, `depth` of them, with falling keys after the inner one.
 fn nested_falling(size: usize, depth: usize) -> Vec<u8> {
     (1..=depth).fold(b"0:".to_vec(), |inner, level| {

@@ -1,10 +1,10 @@
-//! Times both walkers on the same payloads, in the loose profile.
+//! Times the proved walkers, nested and with one loop, and the one in ordinary Rust on the same payloads, in the loose profile.
 
 use std::hint::black_box;
 use std::time::{Duration, Instant};
 
 use crate::bogsilver::{self, HEADER_LENGTH};
-use crate::{frame_shapes, proved, shapes, walker};
+use crate::{flat, frame_shapes, proved, shapes, walker};
 
 /// A sample is at least so long, by repeating the call, so that neither the clock's step counts nor what the other sides left
 /// in the caches.
@@ -16,7 +16,7 @@ const SAMPLES: std::ops::RangeInclusive<usize> = 21..=1001;
 
 type Shape = fn(usize) -> Vec<u8>;
 
-const SHAPES: [(&str, Shape); 7] = [
+const SHAPES: [(&str, Shape); 10] = [
     ("list of integers", shapes::integers),
     ("list of strings", shapes::strings),
     ("info list, keys sorted", shapes::info),
@@ -24,6 +24,9 @@ const SHAPES: [(&str, Shape); 7] = [
     ("status list", |size| payload(frame_shapes::status(size))),
     ("ID list", |size| payload(frame_shapes::start(size))),
     ("dictionary, keys rising", shapes::rising),
+    ("lists of 16 levels", shapes::deep_lists),
+    ("dictionaries of 16 levels", shapes::deep_dictionaries),
+    ("16 dictionaries nested, rising", shapes::nested_rising),
 ];
 
 /// A frame's payload.
@@ -32,7 +35,10 @@ pub fn payload(frame: Vec<u8>) -> Vec<u8> {
 }
 
 pub fn run() {
-    print_title("payload");
+    println!(
+        "{:36} {:>6} {:>11} {:>11} {:>11} {:>9} {:>9} {:>9}",
+        "payload", "bytes", "nested us", "flat us", "Rust us", "n/Rust", "f/nested", "f/Rust"
+    );
     for (name, shape) in SHAPES {
         for kib in [1, 4, 16, 32] {
             line(name, &shape(kib * 1024));
@@ -41,26 +47,38 @@ pub fn run() {
     for (name, payload) in shapes::worst(32 * 1024) {
         line(name, &payload);
     }
+    for (name, payload) in shapes::short() {
+        line(name, &payload);
+    }
 }
 
 fn line(name: &str, payload: &[u8]) {
-    assert_eq!(
-        proved(payload, false),
-        (0, payload.len()),
-        "{name} is not accepted"
+    for walk in [proved, flat, walker::walk] {
+        assert_eq!(
+            walk(payload, false),
+            (0, payload.len()),
+            "{name} is not accepted"
+        );
+    }
+    let times = measure(&mut [
+        &mut || {
+            black_box(bogsilver::walk(black_box(payload), black_box(false)));
+        },
+        &mut || {
+            black_box(bogsilver::walk_flat(black_box(payload), black_box(false)));
+        },
+        &mut || {
+            black_box(walker::walk(black_box(payload), black_box(false)));
+        },
+    ]);
+    let (nested, flat, rust) = (times[0], times[1], times[2]);
+    println!(
+        "{name:36} {:6} {nested:11.3} {flat:11.3} {rust:11.3} {:9.2} {:9.2} {:9.2}",
+        payload.len(),
+        nested / rust,
+        flat / nested,
+        flat / rust
     );
-    assert_eq!(
-        walker::walk(payload, false),
-        (0, payload.len()),
-        "{name} is not accepted"
-    );
-    let proved = || {
-        black_box(bogsilver::walk(black_box(payload), black_box(false)));
-    };
-    let rust = || {
-        black_box(walker::walk(black_box(payload), black_box(false)));
-    };
-    print_ratio(name, payload.len(), proved, rust);
 }
 
 pub fn print_title(what: &str) {
