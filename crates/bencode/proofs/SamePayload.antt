@@ -11,7 +11,8 @@ use Rattle.bencode.specs.Demands.{SamePayload}
 use Rattle.bencode.specs.Flat.{Open, atStart, turn, loopAt}
 use Rattle.bencode.specs.Loop.{LoopStep, next, done, afterStep, repeat}
 use Rattle.bencode.specs.Walk.{whole, payloadAt}
-use Rattle.bencode.proofs.walking.FlatLaws.{Value, Stand, Lands, lands, starts}
+use Rattle.bencode.proofs.walking.OpenLevels.{Value, Stand, starts}
+use Rattle.bencode.proofs.walking.FlatLaws.{Lands, lands}
 
 module _ (p : Profile) (s : List ℕ) (a : Walk) where
   loop-lands : (n at : ℕ) (x : Open) → length s - at < n → Stand p s (x .row) (x .depth) (x .level) (x .valued) at → repeat (turn p s) a n at x ≡ Value p s

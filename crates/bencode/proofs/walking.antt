@@ -5,4 +5,6 @@ pub mod WalkLaws
 pub mod MarkLaws
 pub mod KeyOrder
 pub mod KeyLaws
+pub mod TokenLaws
+pub mod OpenLevels
 pub mod FlatLaws

@@ -1,4 +1,4 @@
--- `bencode::flat::first_value` meets its contract: where the loop stands is a `Stand` of `FlatLaws`, and each way of a turn lands.
+-- `bencode::flat::first_value` meets its contract: where the loop stands is a `Stand` of `OpenLevels`, and each way of a turn lands.
 -- Assumes nothing.
 use Prim.Native.Nat.{_+_, _-_}
 use mathlib.Core.Path.{refl, sym, subst, _∙_}
@@ -8,7 +8,9 @@ use lib.ListN.{length, set}
 use Rattle.bencode.specs.declared.flat.Level.{Level}
 use Rattle.bencode.specs.declared.flat.Token.{Token}
 use Rattle.bencode.specs.Flat.{opened}
-use Rattle.bencode.proofs.walking.FlatLaws.{Stand, stand-depth, stand-sound, close-deep, starts, landed}
+use Rattle.bencode.proofs.walking.TokenLaws.{close-deep}
+use Rattle.bencode.proofs.walking.OpenLevels.{Stand, stand-depth, stand-sound, starts}
+use Rattle.bencode.proofs.walking.FlatLaws.{landed}
 use borrow.Author.Needs.{needs}
 use Rattle.bencode.proofs.flat.first_value.Statement.{statement}
 use Rattle.bencode.proofs.flat.first_value.Tie as tie

@@ -4,7 +4,7 @@ use Prim.Native.Nat.{ℕ}
 use mathlib.Core.Path.{sym, ap, _∙_}
 use Rattle.bencode.specs.declared.flat.Kind.{Kind}
 use Rattle.bencode.specs.Flat.{kindAt}
-use Rattle.bencode.proofs.walking.FlatLaws.{token-of-kind}
+use Rattle.bencode.proofs.walking.TokenLaws.{token-of-kind}
 use borrow.Author.Needs.{needs}
 use Rattle.bencode.proofs.flat.token_at.Statement.{statement}
 use Rattle.bencode.proofs.flat.token_at.Tie as tie

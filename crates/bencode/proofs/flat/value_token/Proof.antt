@@ -3,7 +3,7 @@
 use mathlib.Core.Path.{refl, sym, _∙_}
 use Rattle.octets.specs.Bytes.{byteAt}
 use Rattle.bencode.proofs.walking.ClassLaws.{class-is, class-is-not}
-use Rattle.bencode.proofs.walking.FlatLaws.{value-opens-list, value-opens-dictionary, value-is-integer, value-is-string}
+use Rattle.bencode.proofs.walking.TokenLaws.{value-opens-list, value-opens-dictionary, value-is-integer, value-is-string}
 use borrow.Author.Needs.{needs}
 use Rattle.bencode.proofs.flat.value_token.Statement.{statement}
 use Rattle.bencode.proofs.flat.value_token.Tie as tie
