@@ -14,7 +14,8 @@ use Rattle.octets.specs.Numerals.{numeralAt, digits}
 use Rattle.octets.proofs.sequences.Order.{clash}
 use Rattle.bencode.specs.Entry.{entryAt}
 use Rattle.bencode.specs.Fault.{codeOf}
-use Rattle.bencode.specs.Flat.{valueToken, tokenAt, turn, loopAt}
+use Rattle.bencode.specs.Flat.{turn, loopAt}
+use Rattle.bencode.specs.Tokens.{valueToken, tokenAt}
 use Rattle.bencode.specs.Key.{isUsed, isAbove, keyFault}
 use Rattle.bencode.specs.KeySearch.{keyTextAt, usedAt, repeatedAt, aboveAt, keyAt}
 use Rattle.bencode.specs.Loop.{repeat}

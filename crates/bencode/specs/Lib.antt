@@ -14,6 +14,7 @@ pub mod Marks
 pub mod Runs
 pub mod Record
 pub mod KeySearch
+pub mod Tokens
 pub mod Flat
 pub mod Classes
 pub mod Item

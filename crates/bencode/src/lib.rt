@@ -24,6 +24,7 @@ mod skip;
 mod strings;
 mod text;
 mod text_keys;
+mod tokens;
 mod walk;
 
 pub use depth::Deeper;

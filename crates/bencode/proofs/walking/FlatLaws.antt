@@ -10,8 +10,8 @@ use lib.Dec.{eqb}
 use lib.ListN.{length, getD, set, length-set}
 use Rattle.bencode.specs.declared.fault.Fault.{Fault}
 use Rattle.bencode.specs.declared.fault.Walk.{Walk}
-use Rattle.bencode.specs.declared.flat.Level.{Level}
-use Rattle.bencode.specs.declared.flat.Token.{Token}
+use Rattle.bencode.specs.declared.tokens.Level.{Level}
+use Rattle.bencode.specs.declared.tokens.Token.{Token}
 use Rattle.bencode.specs.declared.key.KeyCheck.{KeyCheck}
 use Rattle.bencode.specs.declared.key.Seen.{Seen}
 use Rattle.bencode.specs.declared.profile.Profile.{Profile}
@@ -19,7 +19,8 @@ use Rattle.bencode.specs.declared.strings.Text.{Text}
 use Rattle.octets.specs.Bytes.{byteAt, slice}
 use Rattle.bencode.specs.Depth.{largestDepth}
 use Rattle.bencode.specs.Fault.{fault}
-use Rattle.bencode.specs.Flat.{scalarToken, openToken, valueToken, checkedToken, textToken, keyToken, tokenAt, opened, outside, Open, advance}
+use Rattle.bencode.specs.Flat.{opened, outside, Open, advance}
+use Rattle.bencode.specs.Tokens.{scalarToken, openToken, valueToken, checkedToken, textToken, keyToken, tokenAt}
 use Rattle.bencode.specs.Key.{keyFault}
 use Rattle.bencode.specs.KeySearch.{keyTextAt, risen, marked, unsorted, aboveAt, repeatedAt, keyAt}
 use Rattle.bencode.specs.Loop.{LoopStep, next, done, Past}

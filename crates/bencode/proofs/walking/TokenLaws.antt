@@ -8,13 +8,13 @@ use native.Mathlib.Omega.{arith}
 use borrow.Author.Tests.{ne-eqb}
 use Rattle.bencode.specs.declared.fault.Fault.{Fault}
 use Rattle.bencode.specs.declared.fault.Walk.{Walk}
-use Rattle.bencode.specs.declared.flat.Kind.{Kind}
-use Rattle.bencode.specs.declared.flat.Level.{Level}
-use Rattle.bencode.specs.declared.flat.Token.{Token}
+use Rattle.bencode.specs.declared.tokens.Kind.{Kind}
+use Rattle.bencode.specs.declared.tokens.Level.{Level}
+use Rattle.bencode.specs.declared.tokens.Token.{Token}
 use Rattle.bencode.specs.declared.profile.Profile.{Profile}
 use Rattle.octets.specs.Bytes.{byteAt}
 use Rattle.bencode.specs.Classes.{classOf}
-use Rattle.bencode.specs.Flat.{kindAt, scalarToken, openToken, valueToken, kindToken, tokenAt}
+use Rattle.bencode.specs.Tokens.{kindAt, scalarToken, openToken, valueToken, kindToken, tokenAt}
 use Rattle.bencode.specs.Integers.{integerAt, numberEnd}
 use Rattle.bencode.specs.Scalar.{scalarAt}
 use Rattle.bencode.specs.Skip.{opens}

@@ -5,8 +5,8 @@ use mathlib.Core.Path.{refl, sym, subst, _∙_}
 use mathlib.Core.Bool.{false}
 use native.Mathlib.Omega.{arith}
 use lib.ListN.{length, set}
-use Rattle.bencode.specs.declared.flat.Level.{Level}
-use Rattle.bencode.specs.declared.flat.Token.{Token}
+use Rattle.bencode.specs.declared.tokens.Level.{Level}
+use Rattle.bencode.specs.declared.tokens.Token.{Token}
 use Rattle.bencode.specs.Flat.{opened}
 use Rattle.bencode.proofs.walking.TokenLaws.{close-deep}
 use Rattle.bencode.proofs.walking.OpenLevels.{Stand, stand-depth, stand-sound, starts}

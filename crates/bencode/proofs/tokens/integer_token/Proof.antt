@@ -1,12 +1,12 @@
--- `bencode::flat::integer_token` meets its contract.
+-- `bencode::tokens::integer_token` meets its contract.
 -- Assumes nothing.
 use mathlib.Core.Path.{sym, ap, _∙_}
 use Rattle.bencode.specs.declared.integers.Number.{Number}
-use Rattle.bencode.specs.Flat.{scalarToken}
+use Rattle.bencode.specs.Tokens.{scalarToken}
 use Rattle.bencode.specs.Integers.{numberEnd}
 use borrow.Author.Needs.{needs}
-use Rattle.bencode.proofs.flat.integer_token.Statement.{statement}
-use Rattle.bencode.proofs.flat.integer_token.Tie as tie
+use Rattle.bencode.proofs.tokens.integer_token.Statement.{statement}
+use Rattle.bencode.proofs.tokens.integer_token.Tie as tie
 
 integer-requires : tie.Need-integer-requires
 integer-requires c κs = search needs

@@ -1,17 +1,17 @@
--- `bencode::flat::key_token` meets its contract: a law for each way.
+-- `bencode::tokens::key_token` meets its contract: a law for each way.
 -- Assumes nothing.
 use mathlib.Core.Path.{sym, ap, _∙_}
 use native.Mathlib.Omega.{arith}
 use Rattle.bencode.specs.declared.fault.Fault.{Fault}
 use Rattle.bencode.specs.declared.fault.Walk.{Walk}
-use Rattle.bencode.specs.declared.flat.Token.{Token}
-use Rattle.bencode.specs.Flat.{checkedToken, textToken}
+use Rattle.bencode.specs.declared.tokens.Token.{Token}
+use Rattle.bencode.specs.Tokens.{checkedToken, textToken}
 use Rattle.bencode.proofs.utf8.TextKeyLaws.{key-is-text, key-no-text, key-no-string}
 use Rattle.bencode.proofs.walking.Ends.{string-whole-inv}
 use borrow.Author.Tests.{not-true, not-false}
 use borrow.Author.Needs.{needs}
-use Rattle.bencode.proofs.flat.key_token.Statement.{statement}
-use Rattle.bencode.proofs.flat.key_token.Tie as tie
+use Rattle.bencode.proofs.tokens.key_token.Statement.{statement}
+use Rattle.bencode.proofs.tokens.key_token.Tie as tie
 
 string-requires : tie.Need-string-requires
 string-requires c κs = search needs

@@ -1,13 +1,13 @@
--- `bencode::flat::token_at` meets its contract: each kind has its token.
+-- `bencode::tokens::token_at` meets its contract: each kind has its token.
 -- Assumes nothing.
 use Prim.Native.Nat.{ℕ}
 use mathlib.Core.Path.{sym, ap, _∙_}
-use Rattle.bencode.specs.declared.flat.Kind.{Kind}
-use Rattle.bencode.specs.Flat.{kindAt}
+use Rattle.bencode.specs.declared.tokens.Kind.{Kind}
+use Rattle.bencode.specs.Tokens.{kindAt}
 use Rattle.bencode.proofs.walking.TokenLaws.{token-of-kind}
 use borrow.Author.Needs.{needs}
-use Rattle.bencode.proofs.flat.token_at.Statement.{statement}
-use Rattle.bencode.proofs.flat.token_at.Tie as tie
+use Rattle.bencode.proofs.tokens.token_at.Statement.{statement}
+use Rattle.bencode.proofs.tokens.token_at.Tie as tie
 
 class-at-requires : tie.Need-class-at-requires
 class-at-requires c κs = c .before .pre .2

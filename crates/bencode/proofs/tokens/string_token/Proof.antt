@@ -1,12 +1,12 @@
--- `bencode::flat::string_token` meets its contract.
+-- `bencode::tokens::string_token` meets its contract.
 -- Assumes nothing.
 use mathlib.Core.Path.{sym, ap, _∙_}
 use Rattle.bencode.specs.declared.strings.Text.{Text}
-use Rattle.bencode.specs.Flat.{scalarToken}
+use Rattle.bencode.specs.Tokens.{scalarToken}
 use Rattle.bencode.specs.Strings.{textEnd}
 use borrow.Author.Needs.{needs}
-use Rattle.bencode.proofs.flat.string_token.Statement.{statement}
-use Rattle.bencode.proofs.flat.string_token.Tie as tie
+use Rattle.bencode.proofs.tokens.string_token.Statement.{statement}
+use Rattle.bencode.proofs.tokens.string_token.Tie as tie
 
 string-requires : tie.Need-string-requires
 string-requires c κs = search needs

@@ -1,11 +1,11 @@
--- `bencode::flat::open_token` meets its contract.
+-- `bencode::tokens::open_token` meets its contract.
 -- Assumes nothing.
 use mathlib.Core.Path.{refl}
 use borrow.Author.Tests.{eq-eqb, ne-eqb}
 use Rattle.bencode.specs.Depth.{largestDepth}
 use borrow.Author.Needs.{needs}
-use Rattle.bencode.proofs.flat.open_token.Statement.{statement}
-use Rattle.bencode.proofs.flat.open_token.Tie as tie
+use Rattle.bencode.proofs.tokens.open_token.Statement.{statement}
+use Rattle.bencode.proofs.tokens.open_token.Tie as tie
 
 returns : tie.Need-returns
 returns c = rw (eq-eqb (c .before .args .depth) largestDepth (c .if1 .taken)) refl

@@ -1,12 +1,12 @@
--- `bencode::flat::value_token` meets its contract: a law for each way, and what a class says of its byte by `ClassLaws`.
+-- `bencode::tokens::value_token` meets its contract: a law for each way, and what a class says of its byte by `ClassLaws`.
 -- Assumes nothing.
 use mathlib.Core.Path.{refl, sym, _∙_}
 use Rattle.octets.specs.Bytes.{byteAt}
 use Rattle.bencode.proofs.walking.ClassLaws.{class-is, class-is-not}
 use Rattle.bencode.proofs.walking.TokenLaws.{value-opens-list, value-opens-dictionary, value-is-integer, value-is-string}
 use borrow.Author.Needs.{needs}
-use Rattle.bencode.proofs.flat.value_token.Statement.{statement}
-use Rattle.bencode.proofs.flat.value_token.Tie as tie
+use Rattle.bencode.proofs.tokens.value_token.Statement.{statement}
+use Rattle.bencode.proofs.tokens.value_token.Tie as tie
 
 open-token-requires : tie.Need-open-token-requires
 open-token-requires c κs = search needs

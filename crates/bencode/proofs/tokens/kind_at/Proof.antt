@@ -1,10 +1,10 @@
--- `bencode::flat::kind_at` meets its contract.
+-- `bencode::tokens::kind_at` meets its contract.
 -- Assumes nothing.
 use mathlib.Core.Path.{refl}
 use borrow.Author.Tests.{eq-eqb, ne-eqb}
 use borrow.Author.Needs.{needs}
-use Rattle.bencode.proofs.flat.kind_at.Statement.{statement}
-use Rattle.bencode.proofs.flat.kind_at.Tie as tie
+use Rattle.bencode.proofs.tokens.kind_at.Statement.{statement}
+use Rattle.bencode.proofs.tokens.kind_at.Tie as tie
 
 returns : tie.Need-returns
 returns c = search needs
