@@ -1,5 +1,6 @@
 """The machine code of an x86-64 archive or object, as objdump shows it."""
 
+import os
 import re
 import subprocess
 from typing import NamedTuple
@@ -46,7 +47,7 @@ def shown(option, file):
     """What objdump prints of a file, line by line with the member's name."""
     made = subprocess.run(
         ["objdump", option, "-M", "intel", "--no-show-raw-insn", file],
-        capture_output=True, text=True)
+        capture_output=True, text=True, env={**os.environ, "LC_ALL": "C"})
     if made.returncode or made.stderr:
         raise Unclear("%s: not disassembled: %s" % (file, made.stderr.strip()))
     member = ""

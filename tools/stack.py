@@ -16,7 +16,9 @@ and what is used below the stack pointer (the red zone); each function is
 followed along all its ways. Ends with status 1, and says why, where something
 cannot be told from the machine code: a call by address, a call of a function
 that is not in the archive (but for OUTSIDE, whose own stack is not counted),
-a stack pointer that is moved by no constant. Needs objdump.
+a stack pointer that is moved by no constant. What is reached by an address of
+the stack that was put into a register is taken to lie in the frame, as
+compilers see to it. Needs objdump.
 """
 
 import re
@@ -36,9 +38,19 @@ STACK_MEMORY = re.compile(r"\[rsp((?:[-+][^-+\]]+)*)\]")
 TABLE_ENTRY = re.compile(r"DWORD PTR \[(\w+)\+\w+\*4\]")
 NO_RETURN = ("ud2", "hlt", "int3")
 READERS = ("mov", "add", "sub", "cmp")
+READ_ONLY = ("cmp", "test", "bt", "push")
 UNKNOWN = re.compile(
     r"\(bad\)|enter|leave|(?:push|pop).+|ret.+|syscall|sysenter|int|iret.*"
     r"|xbegin|l(?:call|jmp)|far")
+
+
+def parts(register):
+    """The names of a register and of its lower parts."""
+    stem = register[1:]
+    if stem.isdigit():
+        return {register + each for each in ("", "d", "w", "b")}
+    return {register, "e" + stem, stem, stem.removesuffix("x") + "l",
+            stem[0] + "h"}
 
 
 def signed(text):
@@ -91,7 +103,7 @@ class Function:
     def moved(self, step, depth):
         """The depth after an instruction."""
         word, operands = step.word, step.operands
-        if UNKNOWN.fullmatch(word) or re.search(
+        if UNKNOWN.fullmatch(word) or word == "ret" and operands or re.search(
                 r"\b(?:esp|sp|spl)\b", ",".join(operands)):
             self.unclear(step.text)
         if word in ("push", "pop"):
@@ -214,14 +226,36 @@ class Function:
             TABLE_ENTRY.fullmatch(lines[0].operands[-1]))
         if not entry or lines[1].word != "add" or (
                 lines[1].operands != [register, entry.group(1)]
-                or lines[0].operands[0] != register):
+                or lines[0].operands[0] != register
+                or not self.has_table(entry.group(1), back[0])):
             self.unclear("%s: by address" % step.text)
         self.switches |= {back[1], offset}
         return self.table_ways(step)
 
+    def table(self):
+        """The section of the function's own tables."""
+        return ".rodata" + self.place.section.removeprefix(".text")
+
+    def has_table(self, register, offset):
+        """Was a register, before an offset, last given where a table of this
+        function stands."""
+        written = [
+            each for each in range(offset - 1, self.place.offset - 1, -1)
+            if self.writes(self.code.instructions.get(self.at(each)),
+                           register)]
+        last = written and self.code.instructions[self.at(written[0])]
+        return bool(last and last.word == "lea" and last.relocation
+                    and last.relocation.symbol == self.table())
+
+    @staticmethod
+    def writes(step, register):
+        return bool(step and step.word not in READ_ONLY
+                    and step.operands[:1]
+                    and step.operands[0] in parts(register))
+
     def table_ways(self, step):
         member, section, start = self.place
-        table = ".rodata" + section.removeprefix(".text")
+        table = self.table()
         heads = sorted(each.relocation.addend + 4
                        for place, each in self.code.instructions.items()
                        if place[:2] == (member, section) and each.relocation

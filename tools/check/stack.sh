@@ -64,6 +64,12 @@ IFS='|'
 assembly 0 'entry: 16 bytes' $switch '.section .rodata.entry,"a"' 'table: .long one - table, two - table'
 # shellcheck disable=SC2086
 assembly 1 'entry: jmp rax' $switch '.section .rodata.entry,"a"' 'table: .long one - table, leaf - table'
+# shellcheck disable=SC2086
+assembly 1 'entry: jmp rax: by address' $switch '.section .rodata.entry,"a"' 'own: .long one - own, two - own' \
+    '.section .rodata.other,"a"' 'table: .long leaf - table'
+# shellcheck disable=SC2086
+assembly 1 'entry: jmp rax: by address' 'lea rcx, [rip + table]' 'mov ecx, esi' ${switch#*|} '.section .rodata.entry,"a"' \
+    'table: .long one - table, two - table'
 unset IFS
 echo "bytes: exact in 10 functions; one calls out of the archive, which is said"
 
@@ -83,11 +89,12 @@ assembly 1 'entry: call QWORD PTR [rip' 'call [rip + memcpy@GOTPCREL]' ret
 assembly 1 'entry: jmp rax: by address' 'jmp rax'
 assembly 1 'entry: calls puts, not in the archive' 'call puts' ret
 assembly 1 'entry: ret at a depth of 8 bytes' 'push rax' ret
+assembly 1 'entry: ret 0x8' 'ret 8'
 assembly 1 'entry: two depths at' 'je 1f' 'push rax' '1: jmp 1b'
 assembly 1 'entry: pop rax: above its return address' 'pop rax' 'jmp rax'
 assembly 1 'entry: goes on after its end' nop
 assembly 1 'entry: goes into the middle of leaf' 'jmp leaf + 5'
-echo "refused: 19 functions of which nothing could be said"
+echo "refused: 22 functions of which nothing could be said"
 
 # Functions that call themselves, alone and through others.
 set -- 'sub rsp, 8' 'call turn' 'add rsp, 8' ret '.type turn, @function' \

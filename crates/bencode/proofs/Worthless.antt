@@ -25,7 +25,7 @@ use Rattle.bencode.specs.Skip.{skipFrom}
 use Rattle.bencode.specs.Strings.{stringAt}
 use Rattle.bencode.specs.Utf8.{textFrom, isText}
 use Rattle.bencode.specs.Walk.{listFrom, dictionaryFrom, valueAt, payloadAt}
-use Rattle.bencode.specs.Worthless.{DifferentFalls, AnyBytesFalls, isAscii, AsciiAloneFalls, RowForgottenFalls, DictionaryAsListFalls, InnerKeysKeptFalls, LevelUncountedFalls, EverythingFalls}
+use Rattle.bencode.specs.Worthless.{DifferentFalls, AnyBytesFalls, isAscii, AsciiAloneFalls, RowForgottenFalls, DictionaryAsListFalls, InnerKeysKeptFalls, LevelUncountedFalls, EndlessFalls, EverythingFalls}
 use Rattle.bencode.proofs.KeyText.{key-text}
 
 pub different-falls : DifferentFalls
@@ -65,6 +65,10 @@ inner-keys-kept-falls demand = codes-differ refl (demand Profile.Loose (ascii "d
 pub level-uncounted-falls : LevelUncountedFalls
 unfolding ascii same less numeralAt digits stringAt scalarAt repeat textFrom isUsed isAbove keyFault listFrom dictionaryFrom valueAt payloadAt keyTextAt usedAt repeatedAt aboveAt keyAt entryAt skipFrom isMarked withMark placeOf valueToken tokenAt turn loopAt
 level-uncounted-falls demand = codes-differ refl (demand Profile.Loose (ascii "le"))
+
+pub endless-falls : EndlessFalls
+unfolding ascii numeralAt digits stringAt scalarAt repeat valueAt payloadAt loopAt
+endless-falls demand = codes-differ refl (demand Profile.Loose (ascii "e"))
 
 pub everything-falls : EverythingFalls
 unfolding ascii numeralAt digits stringAt scalarAt repeat valueAt payloadAt loopAt

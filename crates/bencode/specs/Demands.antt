@@ -23,7 +23,7 @@ use Rattle.bencode.specs.Utf8.{Utf8Text, isText}
 use Rattle.bencode.specs.Key.{keyFault, isFaultCode}
 use Rattle.bencode.specs.Walk.{payloadAt, payloadCode}
 use Rattle.bencode.specs.Loop.{LoopStep}
-use Rattle.bencode.specs.Flat.{Open, turn, loopAt}
+use Rattle.bencode.specs.Flat.{Levels, turn, loopAt}
 use Rattle.bencode.specs.Skip.{skipValue, skipRest}
 use Rattle.bencode.specs.Entry.{entryAt}
 use Rattle.bencode.specs.Item.{itemAt}
@@ -77,11 +77,11 @@ abbrev pub StrictIsLoose : Type 0
 StrictIsLoose = (s : List ℕ) → (payloadCode Profile.Strict s ≡ 11 → ⊥) → payloadAt Profile.Strict s ≡ payloadAt Profile.Loose s
 
 -- request 09, of any turn of a walk by one loop with a row of levels: the loop finds in every payload what the nested walk finds,
--- the end or the fault with its code and offset, in either profile
-abbrev pub SamePayloadFor : (Profile → List ℕ → ℕ → Open → LoopStep Open Walk) → Type 0
+-- the end or the fault with its code and offset, in either profile. Of the function `flat::payload` its promise says so
+abbrev pub SamePayloadFor : (Profile → List ℕ → ℕ → Levels → LoopStep Levels Walk) → Type 0
 SamePayloadFor step = (p : Profile) (s : List ℕ) → loopAt step p s ≡ payloadAt p s
 
--- request 09, of ours
+-- request 09, of the turn that ours is
 abbrev pub SamePayload : Type 0
 SamePayload = SamePayloadFor turn
 

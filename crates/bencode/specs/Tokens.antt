@@ -1,5 +1,5 @@
--- Pinned by `SamePayload`; nothing public cites it. Tokens of a payload, as the walk by one loop takes them (document 02, request
--- 09).
+-- Pinned by `SamePayload`; no promise of a public function cites it. Tokens of a payload, as the walk by one loop takes them
+-- (document 02, request 09).
 -- Assumes nothing.
 use Prim.Native.Nat.{ℕ}
 use mathlib.Core.Bool.{Bool, cond}

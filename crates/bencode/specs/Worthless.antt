@@ -10,7 +10,7 @@ use Rattle.bencode.specs.declared.fault.Walk.{Walk}
 use Rattle.bencode.specs.declared.profile.Profile.{Profile}
 use Rattle.bencode.specs.Letters.{letterL}
 use Rattle.bencode.specs.Depth.{largestDepth}
-use Rattle.bencode.specs.Flat.{outside, Open, turn}
+use Rattle.bencode.specs.Flat.{outside, Levels, turn}
 use Rattle.bencode.specs.Loop.{LoopStep, next, done}
 use Rattle.bencode.specs.Utf8.{isText}
 use Rattle.bencode.specs.Demands.{KeyTextFor, SamePayloadFor}
@@ -33,41 +33,46 @@ abbrev pub AsciiAloneFalls : Type 0
 AsciiAloneFalls = KeyTextFor isAscii → ⊥
 
 -- ---- request 09: walks by one loop
--- a turn of ours after which what is open is altered, by what was open before and what is open after it
-abbrev pub alteredStep : (Open → Open) → LoopStep Open Walk → LoopStep Open Walk
+-- a step with what it goes on with altered
+abbrev pub alteredStep : (Levels → Levels) → LoopStep Levels Walk → LoopStep Levels Walk
 alteredStep alter (next at x) = next at (alter x)
 alteredStep alter (done walk) = done walk
 
-abbrev pub altered : (Open → Open → Open) → Profile → List ℕ → ℕ → Open → LoopStep Open Walk
+-- our turn, after which the levels that are open are altered, by those before and those after it
+abbrev pub altered : (Levels → Levels → Levels) → Profile → List ℕ → ℕ → Levels → LoopStep Levels Walk
 altered alter p s at x = alteredStep (alter x) (turn p s at x)
 
 -- the row forgets the outer levels
-abbrev pub forgotten : Open → Open → Open
+abbrev pub forgotten : Levels → Levels → Levels
 forgotten before after = record { row = replicate largestDepth outside; depth = after .depth; level = after .level; valued = after .valued }
 
 abbrev pub RowForgottenFalls : Type 0
 RowForgottenFalls = SamePayloadFor (altered forgotten) → ⊥
 
 -- the mark of a dictionary is taken for a list's
-abbrev pub listMarked : Open → Open → Open
+abbrev pub listMarked : Levels → Levels → Levels
 listMarked before after = record { row = after .row; depth = after .depth; level = record { mark = letterL; seen = after .level .seen }; valued = after .valued }
 
 abbrev pub DictionaryAsListFalls : Type 0
 DictionaryAsListFalls = SamePayloadFor (altered listMarked) → ⊥
 
--- a level that closes leaves its keys to the outer one
-abbrev pub levelLeft : Open → Open → Open
+-- a level that closes stays the innermost, with its mark and its keys
+abbrev pub levelLeft : Levels → Levels → Levels
 levelLeft before after = cond (ltb (after .depth) (before .depth)) (record { row = after .row; depth = after .depth; level = before .level; valued = after .valued }) after
 
 abbrev pub InnerKeysKeptFalls : Type 0
 InnerKeysKeptFalls = SamePayloadFor (altered levelLeft) → ⊥
 
 -- a level that opens is not counted
-abbrev pub uncounted : Open → Open → Open
+abbrev pub uncounted : Levels → Levels → Levels
 uncounted before after = cond (ltb (before .depth) (after .depth)) (record { row = after .row; depth = before .depth; level = after .level; valued = after .valued }) after
 
 abbrev pub LevelUncountedFalls : Type 0
 LevelUncountedFalls = SamePayloadFor (altered uncounted) → ⊥
+
+-- turns that do not end
+abbrev pub EndlessFalls : Type 0
+EndlessFalls = SamePayloadFor (λ p s at x. next at x) → ⊥
 
 -- a walk that accepts everything
 abbrev pub EverythingFalls : Type 0

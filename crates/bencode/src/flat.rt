@@ -1,5 +1,5 @@
-// The walk of a payload by one loop, in which no function calls itself, even through others (document 02, request 09): what is open
-// is a row of marks and places, one for each level. It answers what `walk::payload` answers.
+// The walk of a payload by one loop, in which no function calls itself, even through others (document 02, request 09): for the
+// levels around the innermost there is a row of marks and places. It answers what `walk::payload` answers.
 ghost use mathlib.Core.Path.{_≡_};
 ghost use Rattle.bencode.specs.Depth.{largestDepth};
 ghost use Rattle.bencode.specs.Fault.{codeOf, offsetOf};

@@ -42,7 +42,7 @@ pub extern "C" fn bogsilver_walk(s: &[u8], strict: bool) -> WalkAnswer
     walk_answer_of(bencode::payload(s, profile(strict)))
 }
 
-// The same by the walk that needs little stack.
+// The same by one loop, which needs little stack.
 #[no_mangle]
 pub extern "C" fn bogsilver_walk_flat(s: &[u8], strict: bool) -> WalkAnswer
     ensures { λ r. ⌜ r ≡ walkNumbers (payloadAt (profileOf strict) (now (s .entry))) ⌝ }

@@ -19,7 +19,7 @@ use Rattle.bencode.specs.declared.strings.Text.{Text}
 use Rattle.octets.specs.Bytes.{byteAt, slice}
 use Rattle.bencode.specs.Depth.{largestDepth}
 use Rattle.bencode.specs.Fault.{fault}
-use Rattle.bencode.specs.Flat.{opened, outside, Open, advance}
+use Rattle.bencode.specs.Flat.{opened, outside, Levels, advance}
 use Rattle.bencode.specs.Tokens.{scalarToken, openToken, valueToken, checkedToken, textToken, keyToken, tokenAt}
 use Rattle.bencode.specs.Key.{keyFault}
 use Rattle.bencode.specs.KeySearch.{keyTextAt, risen, marked, unsorted, aboveAt, repeatedAt, keyAt}
@@ -32,13 +32,13 @@ use Rattle.bencode.proofs.utf8.TextKeyLaws.{key-stands}
 use Rattle.bencode.proofs.walking.Ends.{string-whole-inv, scalar-ends}
 use Rattle.bencode.proofs.walking.KeyLaws.{Kept, kept-none, key-allowed, key-refused}
 use Rattle.bencode.proofs.walking.WalkLaws.{value-scalar, value-list, value-dictionary, value-deep-list, value-deep-dictionary, list-end, list-fault, list-more, dictionary-end, dictionary-no-key, dictionary-refused, dictionary-fault, dictionary-more}
-use Rattle.bencode.proofs.walking.OpenLevels.{andThen, Sound, Value, Under, in-list, in-dictionary, Rest, over, rest-list, rest-dictionary, Stand, under-left, under-kept, under-fault, under-end}
+use Rattle.bencode.proofs.walking.OpenLevels.{andThen, Sound, FirstValue, Under, in-list, in-dictionary, Rest, over, rest-list, rest-dictionary, Stand, under-left, under-kept, under-fault, under-end}
 
 module _ (p : Profile) (s : List ℕ) where
   -- ---- a turn
   -- what a turn at an offset comes to: the whole's answer, or a stand further right
-  abbrev pub Lands : ℕ → LoopStep Open Walk → Type 0
-  Lands at (done w) = w ≡ Value p s
+  abbrev pub Lands : ℕ → LoopStep Levels Walk → Type 0
+  Lands at (done w) = w ≡ FirstValue p s
   Lands at (next to y) = Past s at to × Stand p s (y .row) (y .depth) (y .level) (y .valued) to
 
   module _ (row : List Level) (long : length row ≡ largestDepth) (x : Level) (d at : ℕ) where
@@ -157,5 +157,5 @@ module _ (p : Profile) (s : List ℕ) where
   lands row d x false at st = rest-lands row (st .0) x d at (st .1)
 
   -- the same by the token that is found
-  pub landed : (row : List Level) (d : ℕ) (x : Level) (valued : Bool) (at : ℕ) → Stand p s row d x valued at → (t : Token) → tokenAt p s d x valued at ≡ t → Lands at (advance at (record { row = row; depth = d; level = x; valued = valued }) t)
-  landed row d x valued at st t e = subst (λ (t : Token). Lands at (advance at (record { row = row; depth = d; level = x; valued = valued }) t)) e (lands row d x valued at st)
+  pub lands-told : (row : List Level) (d : ℕ) (x : Level) (valued : Bool) (at : ℕ) → Stand p s row d x valued at → (t : Token) → tokenAt p s d x valued at ≡ t → Lands at (advance at (record { row = row; depth = d; level = x; valued = valued }) t)
+  lands-told row d x valued at st t e = subst (λ (t : Token). Lands at (advance at (record { row = row; depth = d; level = x; valued = valued }) t)) e (lands row d x valued at st)

@@ -28,8 +28,8 @@ Sound s seen = (seen .start ≤ seen .end) × (seen .end ≤ length s)
 
 module _ (p : Profile) (s : List ℕ) where
   -- what the payload's value comes to
-  abbrev pub Value : Walk
-  Value = valueAt p largestDepth s 0
+  abbrev pub FirstValue : Walk
+  FirstValue = valueAt p largestDepth s 0
 
   -- a value is under way at an offset, in a level that is at a depth, with some levels left, and what it comes to decides the whole
   pub data Under (row : List Level) : Level → ℕ → ℕ → ℕ → Type 0 where
@@ -42,7 +42,7 @@ module _ (p : Profile) (s : List ℕ) where
 
   -- a value has ended or a level has opened, and the rest of the level goes on at an offset
   pub data Rest (row : List Level) : Level → ℕ → ℕ → Type 0 where
-    over : {x : Level} {at : ℕ} → Sound s (x .seen) → Value ≡ Walk.End at → Rest row x 0 at
+    over : {x : Level} {at : ℕ} → Sound s (x .seen) → FirstValue ≡ Walk.End at → Rest row x 0 at
     rest-list : {x : Level} {d l u at : ℕ} → Sound s (x .seen) → Under row (getD row d outside) d (suc l) u → x .mark ≡ 108
         → valueAt p (suc l) s u ≡ listAt p l s at → Rest row x (suc d) at
     rest-dictionary : {x : Level} {d l u at : ℕ} (keys : List (List ℕ)) → Under row (getD row d outside) d (suc l) u → x .mark ≡ 100
@@ -97,7 +97,7 @@ module _ (p : Profile) (s : List ℕ) where
   under-kept row x d l v h o = subst (λ (z : Level). Under (set row d x) z d l v) (sym (getD-set-same row d x outside h)) (under-set row x d l v d x (omega arith) o)
 
   -- a fault of the value under way is the whole's
-  pub under-fault : (row : List Level) (x : Level) (d l v : ℕ) (f : Fault) → Under row x d l v → valueAt p l s v ≡ Walk.Fault f → Walk.Fault f ≡ Value
+  pub under-fault : (row : List Level) (x : Level) (d l v : ℕ) (f : Fault) → Under row x d l v → valueAt p l s v ≡ Walk.Fault f → Walk.Fault f ≡ FirstValue
   under-fault row x d l v f (outermost w) q = sym q
   under-fault row x d l v f (in-list {d = c} {u = u} w o m e) q = under-fault row (getD row c outside) c (suc l) u f o (e ∙ ap (λ (w : Walk). andThen w (listAt p l s)) q)
   under-fault row x d l v f (in-dictionary {d = c} {u = u} keys w o m e k) q = under-fault row (getD row c outside) c (suc l) u f o (e ∙ ap (λ (w : Walk). andThen w (λ t. dictionaryFrom p (valueAt p l s) s t keys)) q)

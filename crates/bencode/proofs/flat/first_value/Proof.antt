@@ -10,7 +10,7 @@ use Rattle.bencode.specs.declared.tokens.Token.{Token}
 use Rattle.bencode.specs.Flat.{opened}
 use Rattle.bencode.proofs.walking.TokenLaws.{close-deep}
 use Rattle.bencode.proofs.walking.OpenLevels.{Stand, stand-depth, stand-sound, starts}
-use Rattle.bencode.proofs.walking.FlatLaws.{landed}
+use Rattle.bencode.proofs.walking.FlatLaws.{lands-told}
 use borrow.Author.Needs.{needs}
 use Rattle.bencode.proofs.flat.first_value.Statement.{statement}
 use Rattle.bencode.proofs.flat.first_value.Tie as tie
@@ -46,7 +46,7 @@ returns c =
     let a = c .before .before .before .before .before .before .before .before .before .args in
     let s = a .s .now in
     let l = c .before .before .before .before .before .loop in
-    landed (a .profile) s (l .row) (l .depth) (l .level) (l .valued) (l .at) (l .inv) (Token.Done (c .before .walk .given .0 .0)) (sym (c .before .before .before .token-at .ensures) ∙ c .before .walk .given .1)
+    lands-told (a .profile) s (l .row) (l .depth) (l .level) (l .valued) (l .at) (l .inv) (Token.Done (c .before .walk .given .0 .0)) (sym (c .before .before .before .token-at .ensures) ∙ c .before .walk .given .1)
 
 enum-told : tie.Need-enum-told Inv-loop μ-loop
 enum-told c = search needs
@@ -82,7 +82,7 @@ add-at c =
     let a = c .before .before .before .before .before .before .before .before .before .args in
     let s = a .s .now in
     let l = c .before .before .before .before .before .loop in
-    let h = landed (a .profile) s (l .row) (l .depth) (l .level) (l .valued) (l .at) (l .inv) Token.Close (sym (c .before .before .before .token-at .ensures) ∙ c .before .enum-told .given .1) in
+    let h = lands-told (a .profile) s (l .row) (l .depth) (l .level) (l .valued) (l .at) (l .inv) Token.Close (sym (c .before .before .before .token-at .ensures) ∙ c .before .enum-told .given .1) in
     omega (arith, h .0)
 
 loop-less : tie.Need-loop-less Inv-loop μ-loop
@@ -90,7 +90,7 @@ loop-less c =
     let a = c .before .before .before .before .before .before .before .before .before .args in
     let s = a .s .now in
     let l = c .before .before .before .before .before .loop in
-    let h = landed (a .profile) s (l .row) (l .depth) (l .level) (l .valued) (l .at) (l .inv) Token.Close (sym (c .before .before .before .token-at .ensures) ∙ c .before .enum-told .given .1) in
+    let h = lands-told (a .profile) s (l .row) (l .depth) (l .level) (l .valued) (l .at) (l .inv) Token.Close (sym (c .before .before .before .token-at .ensures) ∙ c .before .enum-told .given .1) in
     omega (arith, h .0)
 
 loop-again : tie.Need-loop-again Inv-loop μ-loop
@@ -98,7 +98,7 @@ loop-again c =
     let a = c .before .before .before .before .before .before .before .before .before .args in
     let s = a .s .now in
     let l = c .before .before .before .before .before .loop in
-    let h = landed (a .profile) s (l .row) (l .depth) (l .level) (l .valued) (l .at) (l .inv) Token.Close (sym (c .before .before .before .token-at .ensures) ∙ c .before .enum-told .given .1) in
+    let h = lands-told (a .profile) s (l .row) (l .depth) (l .level) (l .valued) (l .at) (l .inv) Token.Close (sym (c .before .before .before .token-at .ensures) ∙ c .before .enum-told .given .1) in
     h .1
 
 enum-known-seen : tie.Need-enum-known-seen Inv-loop μ-loop
@@ -110,7 +110,7 @@ loop-less-2 c =
     let s = a .s .now in
     let l = c .before .before .before .before .before .loop in
     let k = c .before .seen .given in
-    let h = landed (a .profile) s (l .row) (l .depth) (l .level) (l .valued) (l .at) (l .inv) (Token.Key (k .0 .0) (k .0 .1 .0)) (sym (c .before .before .before .token-at .ensures) ∙ c .before .seen .given .1) in
+    let h = lands-told (a .profile) s (l .row) (l .depth) (l .level) (l .valued) (l .at) (l .inv) (Token.Key (k .0 .0) (k .0 .1 .0)) (sym (c .before .before .before .token-at .ensures) ∙ c .before .seen .given .1) in
     omega (arith, h .0)
 
 loop-again-2 : tie.Need-loop-again-2 Inv-loop μ-loop
@@ -119,7 +119,7 @@ loop-again-2 c =
     let s = a .s .now in
     let l = c .before .before .before .before .before .loop in
     let k = c .before .seen .given in
-    let h = landed (a .profile) s (l .row) (l .depth) (l .level) (l .valued) (l .at) (l .inv) (Token.Key (k .0 .0) (k .0 .1 .0)) (sym (c .before .before .before .token-at .ensures) ∙ c .before .seen .given .1) in
+    let h = lands-told (a .profile) s (l .row) (l .depth) (l .level) (l .valued) (l .at) (l .inv) (Token.Key (k .0 .0) (k .0 .1 .0)) (sym (c .before .before .before .token-at .ensures) ∙ c .before .seen .given .1) in
     h .1
 
 enum-known-mark : tie.Need-enum-known-mark Inv-loop μ-loop
@@ -130,7 +130,7 @@ mul-row c =
     let a = c .before .before .before .before .before .before .before .before .before .args in
     let s = a .s .now in
     let l = c .before .before .before .before .before .loop in
-    let h = landed (a .profile) s (l .row) (l .depth) (l .level) (l .valued) (l .at) (l .inv) (Token.Open (c .before .mark .given .0 .0)) (sym (c .before .before .before .token-at .ensures) ∙ c .before .mark .given .1) in
+    let h = lands-told (a .profile) s (l .row) (l .depth) (l .level) (l .valued) (l .at) (l .inv) (Token.Open (c .before .mark .given .0 .0)) (sym (c .before .before .before .token-at .ensures) ∙ c .before .mark .given .1) in
     let most = stand-depth (a .profile) s (set (l .row) (l .depth) (l .level)) (l .depth + 1) (opened (c .before .mark .given .0 .0) (l .at + 1)) false (l .at + 1) (h .1) in
     omega arith
 
@@ -139,7 +139,7 @@ array-set-from-row c =
     let a = c .before .before .before .before .before .before .before .before .before .args in
     let s = a .s .now in
     let l = c .before .before .before .before .before .loop in
-    let h = landed (a .profile) s (l .row) (l .depth) (l .level) (l .valued) (l .at) (l .inv) (Token.Open (c .before .mark .given .0 .0)) (sym (c .before .before .before .token-at .ensures) ∙ c .before .mark .given .1) in
+    let h = lands-told (a .profile) s (l .row) (l .depth) (l .level) (l .valued) (l .at) (l .inv) (Token.Open (c .before .mark .given .0 .0)) (sym (c .before .before .before .token-at .ensures) ∙ c .before .mark .given .1) in
     let most = stand-depth (a .profile) s (set (l .row) (l .depth) (l .level)) (l .depth + 1) (opened (c .before .mark .given .0 .0) (l .at + 1)) false (l .at + 1) (h .1) in
     omega arith
 
@@ -148,7 +148,7 @@ add-depth c =
     let a = c .before .before .before .before .before .before .before .before .before .args in
     let s = a .s .now in
     let l = c .before .before .before .before .before .loop in
-    let h = landed (a .profile) s (l .row) (l .depth) (l .level) (l .valued) (l .at) (l .inv) (Token.Open (c .before .mark .given .0 .0)) (sym (c .before .before .before .token-at .ensures) ∙ c .before .mark .given .1) in
+    let h = lands-told (a .profile) s (l .row) (l .depth) (l .level) (l .valued) (l .at) (l .inv) (Token.Open (c .before .mark .given .0 .0)) (sym (c .before .before .before .token-at .ensures) ∙ c .before .mark .given .1) in
     let most = stand-depth (a .profile) s (set (l .row) (l .depth) (l .level)) (l .depth + 1) (opened (c .before .mark .given .0 .0) (l .at + 1)) false (l .at + 1) (h .1) in
     omega arith
 
@@ -157,7 +157,7 @@ add-at-2 c =
     let a = c .before .before .before .before .before .before .before .before .before .args in
     let s = a .s .now in
     let l = c .before .before .before .before .before .loop in
-    let h = landed (a .profile) s (l .row) (l .depth) (l .level) (l .valued) (l .at) (l .inv) (Token.Open (c .before .mark .given .0 .0)) (sym (c .before .before .before .token-at .ensures) ∙ c .before .mark .given .1) in
+    let h = lands-told (a .profile) s (l .row) (l .depth) (l .level) (l .valued) (l .at) (l .inv) (Token.Open (c .before .mark .given .0 .0)) (sym (c .before .before .before .token-at .ensures) ∙ c .before .mark .given .1) in
     omega (arith, h .0)
 
 opened-requires-2 : tie.Need-opened-requires-2 Inv-loop μ-loop
@@ -168,7 +168,7 @@ loop-less-3 c =
     let a = c .before .before .before .before .before .before .before .before .before .before .args in
     let s = a .s .now in
     let l = c .before .before .before .before .before .before .loop in
-    let h = landed (a .profile) s (l .row) (l .depth) (l .level) (l .valued) (l .at) (l .inv) (Token.Open (c .before .before .mark .given .0 .0)) (sym (c .before .before .before .before .token-at .ensures) ∙ c .before .before .mark .given .1) in
+    let h = lands-told (a .profile) s (l .row) (l .depth) (l .level) (l .valued) (l .at) (l .inv) (Token.Open (c .before .before .mark .given .0 .0)) (sym (c .before .before .before .before .token-at .ensures) ∙ c .before .before .mark .given .1) in
     omega (arith, h .0)
 
 loop-again-3 : tie.Need-loop-again-3 Inv-loop μ-loop
@@ -176,7 +176,7 @@ loop-again-3 c =
     let a = c .before .before .before .before .before .before .before .before .before .before .args in
     let s = a .s .now in
     let l = c .before .before .before .before .before .before .loop in
-    let h = landed (a .profile) s (l .row) (l .depth) (l .level) (l .valued) (l .at) (l .inv) (Token.Open (c .before .before .mark .given .0 .0)) (sym (c .before .before .before .before .token-at .ensures) ∙ c .before .before .mark .given .1) in
+    let h = lands-told (a .profile) s (l .row) (l .depth) (l .level) (l .valued) (l .at) (l .inv) (Token.Open (c .before .before .mark .given .0 .0)) (sym (c .before .before .before .before .token-at .ensures) ∙ c .before .before .mark .given .1) in
     subst (λ (x : Level). Stand (a .profile) s (set (l .row) (l .depth) (l .level)) (l .depth + 1) x false (l .at + 1)) (sym (c .opened2 .ensures)) (h .1)
 
 enum-known-end : tie.Need-enum-known-end Inv-loop μ-loop
@@ -187,7 +187,7 @@ loop-less-4 c =
     let a = c .before .before .before .before .before .before .before .before .before .args in
     let s = a .s .now in
     let l = c .before .before .before .before .before .loop in
-    let h = landed (a .profile) s (l .row) (l .depth) (l .level) (l .valued) (l .at) (l .inv) (Token.Scalar (c .before .end .given .0 .0)) (sym (c .before .before .before .token-at .ensures) ∙ c .before .end .given .1) in
+    let h = lands-told (a .profile) s (l .row) (l .depth) (l .level) (l .valued) (l .at) (l .inv) (Token.Scalar (c .before .end .given .0 .0)) (sym (c .before .before .before .token-at .ensures) ∙ c .before .end .given .1) in
     omega (arith, h .0)
 
 loop-again-4 : tie.Need-loop-again-4 Inv-loop μ-loop
@@ -195,7 +195,7 @@ loop-again-4 c =
     let a = c .before .before .before .before .before .before .before .before .before .args in
     let s = a .s .now in
     let l = c .before .before .before .before .before .loop in
-    let h = landed (a .profile) s (l .row) (l .depth) (l .level) (l .valued) (l .at) (l .inv) (Token.Scalar (c .before .end .given .0 .0)) (sym (c .before .before .before .token-at .ensures) ∙ c .before .end .given .1) in
+    let h = lands-told (a .profile) s (l .row) (l .depth) (l .level) (l .valued) (l .at) (l .inv) (Token.Scalar (c .before .end .given .0 .0)) (sym (c .before .before .before .token-at .ensures) ∙ c .before .end .given .1) in
     h .1
 
 pub first-value-spec : {M : Type 1} → statement M

@@ -3,7 +3,6 @@
 use mathlib.Core.Path.{refl}
 use borrow.Author.Tests.{eq-eqb, ne-eqb}
 use Rattle.bencode.specs.Depth.{largestDepth}
-use borrow.Author.Needs.{needs}
 use Rattle.bencode.proofs.tokens.open_token.Statement.{statement}
 use Rattle.bencode.proofs.tokens.open_token.Tie as tie
 
