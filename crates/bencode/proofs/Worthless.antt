@@ -13,10 +13,10 @@ use Rattle.octets.specs.Bytes.{same, less}
 use Rattle.octets.specs.Numerals.{numeralAt, digits}
 use Rattle.octets.proofs.sequences.Order.{clash}
 use Rattle.bencode.specs.Entry.{entryAt}
-use Rattle.bencode.specs.Fault.{codeOf}
+use Rattle.bencode.specs.Fault.{fault, codeOf}
 use Rattle.bencode.specs.Flat.{turn, loopAt}
 use Rattle.bencode.specs.Tokens.{valueToken, tokenAt}
-use Rattle.bencode.specs.Key.{isUsed, isAbove, keyFault}
+use Rattle.bencode.specs.Key.{isUsed, isAbove, isFaultCode, keyFault}
 use Rattle.bencode.specs.KeySearch.{keyTextAt, usedAt, repeatedAt, aboveAt, keyAt}
 use Rattle.bencode.specs.Loop.{repeat}
 use Rattle.bencode.specs.Marks.{placeOf, isMarked, withMark}
@@ -24,8 +24,9 @@ use Rattle.bencode.specs.Scalar.{scalarAt}
 use Rattle.bencode.specs.Skip.{skipFrom}
 use Rattle.bencode.specs.Strings.{stringAt}
 use Rattle.bencode.specs.Utf8.{textFrom, isText}
-use Rattle.bencode.specs.Walk.{listFrom, dictionaryFrom, valueAt, payloadAt}
+use Rattle.bencode.specs.Walk.{listFrom, dictionaryFrom, valueAt, whole, payloadAt}
 use Rattle.bencode.specs.Worthless.{DifferentFalls, AnyBytesFalls, isAscii, AsciiAloneFalls, RowForgottenFalls, DictionaryAsListFalls, InnerKeysKeptFalls, LevelUncountedFalls, EndlessFalls, EverythingFalls}
+use Rattle.bencode.proofs.FaultCodes.{faults-coded}
 use Rattle.bencode.proofs.KeyText.{key-text}
 
 pub different-falls : DifferentFalls
@@ -66,9 +67,13 @@ pub level-uncounted-falls : LevelUncountedFalls
 unfolding ascii same less numeralAt digits stringAt scalarAt repeat textFrom isUsed isAbove keyFault listFrom dictionaryFrom valueAt payloadAt keyTextAt usedAt repeatedAt aboveAt keyAt entryAt skipFrom isMarked withMark placeOf valueToken tokenAt turn loopAt
 level-uncounted-falls demand = codes-differ refl (demand Profile.Loose (ascii "le"))
 
+no-code-zero : (p : Profile) → isFaultCode p 0 ≡ true → ⊥
+no-code-zero Profile.Loose e = clash false e refl
+no-code-zero Profile.Strict e = clash false e refl
+
 pub endless-falls : EndlessFalls
-unfolding ascii numeralAt digits stringAt scalarAt repeat valueAt payloadAt loopAt
-endless-falls demand = codes-differ refl (demand Profile.Loose (ascii "e"))
+unfolding loopAt
+endless-falls step p s endless demand = no-code-zero p (faults-coded p s (fault 0 0) (sym (demand p s) ∙ ap (whole s) (endless (Walk.Fault (fault 0 0)))))
 
 pub everything-falls : EverythingFalls
 unfolding ascii numeralAt digits stringAt scalarAt repeat valueAt payloadAt loopAt

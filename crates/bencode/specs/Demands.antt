@@ -77,11 +77,12 @@ abbrev pub StrictIsLoose : Type 0
 StrictIsLoose = (s : List ℕ) → (payloadCode Profile.Strict s ≡ 11 → ⊥) → payloadAt Profile.Strict s ≡ payloadAt Profile.Loose s
 
 -- request 09, of any turn of a walk by one loop with a row of levels: the loop finds in every payload what the nested walk finds,
--- the end or the fault with its code and offset, in either profile. Of the function `flat::payload` its promise says so
+-- the end or the fault with its code and offset, in either profile, in at most as many turns as there are bytes and one. Of the
+-- function `flat::payload` its promise says so
 abbrev pub SamePayloadFor : (Profile → List ℕ → ℕ → Levels → LoopStep Levels Walk) → Type 0
 SamePayloadFor step = (p : Profile) (s : List ℕ) → loopAt step p s ≡ payloadAt p s
 
--- request 09, of the turn that ours is
+-- request 09, of our turn
 abbrev pub SamePayload : Type 0
 SamePayload = SamePayloadFor turn
 

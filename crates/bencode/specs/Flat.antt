@@ -1,16 +1,17 @@
--- Pinned by `SamePayload`; no promise of a public function cites it. The walk of a payload by one loop over its tokens, with a row
--- of the levels that are open (document 02, request 09).
+-- Pinned by `SamePayload`; no promise of a public function cites it. The walk of a payload by one loop over its tokens, with a
+-- row of the levels that are open (document 02, request 09).
 -- Assumes nothing.
 use Prim.Native.Nat.{ℕ, _+_, _-_}
 use mathlib.Core.Bool.{Bool, true, false}
 use mathlib.Core.List.{List}
-use lib.ListN.{length, getD, set, replicate}
+use lib.ListN.{getD, set, replicate}
 use Rattle.bencode.specs.declared.fault.Walk.{Walk}
 use Rattle.bencode.specs.declared.profile.Profile.{Profile}
 use Rattle.bencode.specs.declared.tokens.Level.{Level}
 use Rattle.bencode.specs.declared.tokens.Token.{Token}
 use Rattle.bencode.specs.Letters.{letterD}
 use Rattle.bencode.specs.Depth.{largestDepth}
+use Rattle.bencode.specs.Fault.{fault}
 use Rattle.bencode.specs.KeySearch.{noneSeen}
 use Rattle.bencode.specs.Loop.{LoopStep, next, done, repeatFrom}
 use Rattle.bencode.specs.Tokens.{tokenAt}
@@ -20,7 +21,7 @@ use Rattle.bencode.specs.Walk.{whole}
 abbrev pub opened : ℕ → ℕ → Level
 opened mark first = record { mark = mark; seen = noneSeen first }
 
--- outside of all
+-- the level outside of all
 abbrev pub outside : Level
 outside = opened 0 0
 
@@ -48,6 +49,7 @@ advance at x (Token.Scalar end) = next end (record { row = x .row; depth = x .de
 unfoldable pub turn : Profile → List ℕ → ℕ → Levels → LoopStep Levels Walk
 turn p s at x = advance at x (tokenAt p s (x .depth) (x .level) (x .valued) at)
 
--- what a loop of turns finds in a payload; where the turns do not end, an answer that no payload has
+-- what a loop of turns finds in a payload; where they do not end in as many as there are bytes and one, a fault with code 0,
+-- which no payload has
 unfoldable pub loopAt : (Profile → List ℕ → ℕ → Levels → LoopStep Levels Walk) → Profile → List ℕ → Walk
-loopAt step p s = whole s (repeatFrom s (step p s) (Walk.End (length s + 1)) 0 atStart)
+loopAt step p s = whole s (repeatFrom s (step p s) (Walk.Fault (fault 0 0)) 0 atStart)

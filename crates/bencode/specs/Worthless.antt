@@ -10,8 +10,8 @@ use Rattle.bencode.specs.declared.fault.Walk.{Walk}
 use Rattle.bencode.specs.declared.profile.Profile.{Profile}
 use Rattle.bencode.specs.Letters.{letterL}
 use Rattle.bencode.specs.Depth.{largestDepth}
-use Rattle.bencode.specs.Flat.{outside, Levels, turn}
-use Rattle.bencode.specs.Loop.{LoopStep, next, done}
+use Rattle.bencode.specs.Flat.{outside, Levels, atStart, turn}
+use Rattle.bencode.specs.Loop.{LoopStep, next, done, repeatFrom}
 use Rattle.bencode.specs.Utf8.{isText}
 use Rattle.bencode.specs.Demands.{KeyTextFor, SamePayloadFor}
 
@@ -70,9 +70,9 @@ uncounted before after = cond (ltb (before .depth) (after .depth)) (record { row
 abbrev pub LevelUncountedFalls : Type 0
 LevelUncountedFalls = SamePayloadFor (altered uncounted) → ⊥
 
--- turns that do not end
+-- turns that do not end, be it on one payload: the answer is any that is given for that
 abbrev pub EndlessFalls : Type 0
-EndlessFalls = SamePayloadFor (λ p s at x. next at x) → ⊥
+EndlessFalls = (step : Profile → List ℕ → ℕ → Levels → LoopStep Levels Walk) (p : Profile) (s : List ℕ) → ((answer : Walk) → repeatFrom s (step p s) answer 0 atStart ≡ answer) → SamePayloadFor step → ⊥
 
 -- a walk that accepts everything
 abbrev pub EverythingFalls : Type 0

@@ -52,10 +52,11 @@ fn first_value(s: &[u8], profile: Profile) -> Walk
                 valued = true;
             }
             Token::Open(mark) => {
+                at += 1;
+                let inner = opened(mark, at);
                 row[depth] = level;
                 depth += 1;
-                at += 1;
-                level = opened(mark, at);
+                level = inner;
                 valued = false;
             }
             Token::Scalar(end) => {

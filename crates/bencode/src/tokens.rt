@@ -26,7 +26,7 @@ use super::text_keys::ill_formed_key;
 // How many places the row of levels has: as many as lists and dictionaries may stand in each other.
 pub const LEVELS: usize = Depth::LARGEST as usize;
 
-// A level: its mark, which is the byte that opened it, and what is kept of its keys, with their marks, where it is a dictionary.
+// A level: its mark, which is the byte that opened it, and what is kept of its keys where it is a dictionary.
 pub struct Level {
     pub mark: u8,
     pub seen: Seen,

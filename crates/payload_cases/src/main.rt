@@ -1,5 +1,5 @@
-// Answers a stream of cases, a line for each: `l` walks a payload in the loose profile, `s` in the strict one, `L` and `S` the same
-// by the walk with one loop; `o` sorts it.
+// Answers a stream of cases, a line for each: `l` walks a payload in the loose profile, `s` in the strict one, `L` and `S` the
+// same by one loop; `o` sorts it.
 mod sorted;
 
 use bencode::Profile;

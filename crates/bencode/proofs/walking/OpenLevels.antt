@@ -1,4 +1,4 @@
--- The walk by one loop: what is open, and that what is left of it decides the whole.
+-- The walk by one loop: what is open, and that what is left of it decides what the payload's value comes to.
 -- Assumes nothing.
 use Prim.Native.Nat.{ℕ, suc, _+_, _<_, _≤_}
 use mathlib.Core.Path.{_≡_, refl, sym, ap, subst, _∙_}
@@ -31,7 +31,8 @@ module _ (p : Profile) (s : List ℕ) where
   abbrev pub FirstValue : Walk
   FirstValue = valueAt p largestDepth s 0
 
-  -- a value is under way at an offset, in a level that is at a depth, with some levels left, and what it comes to decides the whole
+  -- a value is under way at an offset, in a level that is at a depth, with some levels left, and what it comes to decides what the
+  -- payload's value comes to
   pub data Under (row : List Level) : Level → ℕ → ℕ → ℕ → Type 0 where
     outermost : {x : Level} → Sound s (x .seen) → Under row x 0 largestDepth 0
     in-list : {x : Level} {d l u v : ℕ} → Sound s (x .seen) → Under row (getD row d outside) d (suc l) u → x .mark ≡ 108
@@ -84,7 +85,7 @@ module _ (p : Profile) (s : List ℕ) where
   stand-sound row d x true at st = under-sound row x d (st .1 .0) at (st .1 .1)
   stand-sound row d x false at st = rest-sound row x d at (st .1)
 
-  -- a place that is not inside the levels that are open may be written
+  -- a place of the row from the depth on may be written
   under-set : (row : List Level) (x : Level) (d l v i : ℕ) (y : Level) → d ≤ i → Under row x d l v → Under (set row i y) x d l v
   under-set row x d l v i y h (outermost w) = outermost w
   under-set row x d l v i y h (in-list {d = c} {u = u} w o m e) =
@@ -92,11 +93,11 @@ module _ (p : Profile) (s : List ℕ) where
   under-set row x d l v i y h (in-dictionary {d = c} {u = u} keys w o m e k) =
       in-dictionary keys w (subst (λ (z : Level). Under (set row i y) z c (suc l) u) (sym (getD-set-other row i c y outside (omega arith))) (under-set row (getD row c outside) c (suc l) u i y (omega arith) o)) m e k
 
-  -- the level that a value is in, once it is kept in the row
+  -- a value is under way as before, once its level is kept in the row
   pub under-kept : (row : List Level) (x : Level) (d l v : ℕ) → d < length row → Under row x d l v → Under (set row d x) (getD (set row d x) d outside) d l v
   under-kept row x d l v h o = subst (λ (z : Level). Under (set row d x) z d l v) (sym (getD-set-same row d x outside h)) (under-set row x d l v d x (omega arith) o)
 
-  -- a fault of the value under way is the whole's
+  -- a fault of the value under way is that of the payload's value
   pub under-fault : (row : List Level) (x : Level) (d l v : ℕ) (f : Fault) → Under row x d l v → valueAt p l s v ≡ Walk.Fault f → Walk.Fault f ≡ FirstValue
   under-fault row x d l v f (outermost w) q = sym q
   under-fault row x d l v f (in-list {d = c} {u = u} w o m e) q = under-fault row (getD row c outside) c (suc l) u f o (e ∙ ap (λ (w : Walk). andThen w (listAt p l s)) q)

@@ -1,4 +1,4 @@
--- Laws of tokens: one for each way through the token of a value, and what a class says of a token.
+-- Laws of tokens: one for each way through the token of a value, what a class says of a token, and what may close.
 -- Assumes nothing.
 use Prim.Native.Nat.{ℕ, zero, suc, _<_}
 use mathlib.Core.Path.{_≡_, refl, sym, ap, _∙_}

@@ -125,33 +125,6 @@ loop-again-2 c =
 enum-known-mark : tie.Need-enum-known-mark Inv-loop μ-loop
 enum-known-mark c = search needs
 
-mul-row : tie.Need-mul-row Inv-loop μ-loop
-mul-row c =
-    let a = c .before .before .before .before .before .before .before .before .before .args in
-    let s = a .s .now in
-    let l = c .before .before .before .before .before .loop in
-    let h = lands-told (a .profile) s (l .row) (l .depth) (l .level) (l .valued) (l .at) (l .inv) (Token.Open (c .before .mark .given .0 .0)) (sym (c .before .before .before .token-at .ensures) ∙ c .before .mark .given .1) in
-    let most = stand-depth (a .profile) s (set (l .row) (l .depth) (l .level)) (l .depth + 1) (opened (c .before .mark .given .0 .0) (l .at + 1)) false (l .at + 1) (h .1) in
-    omega arith
-
-array-set-from-row : tie.Need-array-set-from-row Inv-loop μ-loop
-array-set-from-row c =
-    let a = c .before .before .before .before .before .before .before .before .before .args in
-    let s = a .s .now in
-    let l = c .before .before .before .before .before .loop in
-    let h = lands-told (a .profile) s (l .row) (l .depth) (l .level) (l .valued) (l .at) (l .inv) (Token.Open (c .before .mark .given .0 .0)) (sym (c .before .before .before .token-at .ensures) ∙ c .before .mark .given .1) in
-    let most = stand-depth (a .profile) s (set (l .row) (l .depth) (l .level)) (l .depth + 1) (opened (c .before .mark .given .0 .0) (l .at + 1)) false (l .at + 1) (h .1) in
-    omega arith
-
-add-depth : tie.Need-add-depth Inv-loop μ-loop
-add-depth c =
-    let a = c .before .before .before .before .before .before .before .before .before .args in
-    let s = a .s .now in
-    let l = c .before .before .before .before .before .loop in
-    let h = lands-told (a .profile) s (l .row) (l .depth) (l .level) (l .valued) (l .at) (l .inv) (Token.Open (c .before .mark .given .0 .0)) (sym (c .before .before .before .token-at .ensures) ∙ c .before .mark .given .1) in
-    let most = stand-depth (a .profile) s (set (l .row) (l .depth) (l .level)) (l .depth + 1) (opened (c .before .mark .given .0 .0) (l .at + 1)) false (l .at + 1) (h .1) in
-    omega arith
-
 add-at-2 : tie.Need-add-at-2 Inv-loop μ-loop
 add-at-2 c =
     let a = c .before .before .before .before .before .before .before .before .before .args in
@@ -162,6 +135,33 @@ add-at-2 c =
 
 opened-requires-2 : tie.Need-opened-requires-2 Inv-loop μ-loop
 opened-requires-2 c κs = tt
+
+mul-row : tie.Need-mul-row Inv-loop μ-loop
+mul-row c =
+    let a = c .before .before .before .before .before .before .before .before .before .before .args in
+    let s = a .s .now in
+    let l = c .before .before .before .before .before .before .loop in
+    let h = lands-told (a .profile) s (l .row) (l .depth) (l .level) (l .valued) (l .at) (l .inv) (Token.Open (c .before .before .mark .given .0 .0)) (sym (c .before .before .before .before .token-at .ensures) ∙ c .before .before .mark .given .1) in
+    let most = stand-depth (a .profile) s (set (l .row) (l .depth) (l .level)) (l .depth + 1) (opened (c .before .before .mark .given .0 .0) (l .at + 1)) false (l .at + 1) (h .1) in
+    omega arith
+
+array-set-from-row : tie.Need-array-set-from-row Inv-loop μ-loop
+array-set-from-row c =
+    let a = c .before .before .before .before .before .before .before .before .before .before .args in
+    let s = a .s .now in
+    let l = c .before .before .before .before .before .before .loop in
+    let h = lands-told (a .profile) s (l .row) (l .depth) (l .level) (l .valued) (l .at) (l .inv) (Token.Open (c .before .before .mark .given .0 .0)) (sym (c .before .before .before .before .token-at .ensures) ∙ c .before .before .mark .given .1) in
+    let most = stand-depth (a .profile) s (set (l .row) (l .depth) (l .level)) (l .depth + 1) (opened (c .before .before .mark .given .0 .0) (l .at + 1)) false (l .at + 1) (h .1) in
+    omega arith
+
+add-depth : tie.Need-add-depth Inv-loop μ-loop
+add-depth c =
+    let a = c .before .before .before .before .before .before .before .before .before .before .args in
+    let s = a .s .now in
+    let l = c .before .before .before .before .before .before .loop in
+    let h = lands-told (a .profile) s (l .row) (l .depth) (l .level) (l .valued) (l .at) (l .inv) (Token.Open (c .before .before .mark .given .0 .0)) (sym (c .before .before .before .before .token-at .ensures) ∙ c .before .before .mark .given .1) in
+    let most = stand-depth (a .profile) s (set (l .row) (l .depth) (l .level)) (l .depth + 1) (opened (c .before .before .mark .given .0 .0) (l .at + 1)) false (l .at + 1) (h .1) in
+    omega arith
 
 loop-less-3 : tie.Need-loop-less-3 Inv-loop μ-loop
 loop-less-3 c =
@@ -221,11 +221,11 @@ first-value-spec =
     loop-less-2
     loop-again-2
     enum-known-mark
+    add-at-2
+    opened-requires-2
     mul-row
     array-set-from-row
     add-depth
-    add-at-2
-    opened-requires-2
     loop-less-3
     loop-again-3
     enum-known-end
