@@ -18,8 +18,8 @@ cannot be told from the machine code: a call by address, a call of a function
 that is not in the archive (but for OUTSIDE, whose own stack is not counted),
 a stack pointer that is moved by no constant. What is reached by an address of
 the stack that was put into a register is taken to lie in the frame, and the
-register of a switch to hold what was last put into it in the order of the
-code, as compilers see to it. Needs objdump.
+register with the address of a switch's table to hold what was last put into
+it in the order of the code, as compilers see to it. Needs objdump.
 """
 
 import re

@@ -1,5 +1,5 @@
 -- Wrong builds fall: a recogniser of texts that differs from ours, one that takes any bytes, one that takes ASCII alone; walks by
--- one loop, each by one payload.
+-- one loop, five by one payload each, and any whose turns do not end on some payload.
 -- Assumes nothing.
 use mathlib.Core.Path.{_≡_, refl, sym, ap, _∙_}
 use mathlib.Core.Bool.{Bool, true, false}

@@ -77,8 +77,8 @@ abbrev pub StrictIsLoose : Type 0
 StrictIsLoose = (s : List ℕ) → (payloadCode Profile.Strict s ≡ 11 → ⊥) → payloadAt Profile.Strict s ≡ payloadAt Profile.Loose s
 
 -- request 09, of any turn of a walk by one loop with a row of levels: the loop finds in every payload what the nested walk finds,
--- the end or the fault with its code and offset, in either profile, in at most as many turns as there are bytes and one. Of the
--- function `flat::payload` its promise says so
+-- the end or the fault with its code and offset, in either profile, in at most as many turns as there are bytes and one. That the
+-- function `flat::payload` finds the same, its promise says
 abbrev pub SamePayloadFor : (Profile → List ℕ → ℕ → Levels → LoopStep Levels Walk) → Type 0
 SamePayloadFor step = (p : Profile) (s : List ℕ) → loopAt step p s ≡ payloadAt p s
 

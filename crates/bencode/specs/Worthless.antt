@@ -70,7 +70,8 @@ uncounted before after = cond (ltb (before .depth) (after .depth)) (record { row
 abbrev pub LevelUncountedFalls : Type 0
 LevelUncountedFalls = SamePayloadFor (altered uncounted) → ⊥
 
--- turns that do not end, be it on one payload: the answer is any that is given for that
+-- turns that do not end in as many as there are bytes and one, be it on one payload in one profile: the loop then answers what it
+-- is given for that
 abbrev pub EndlessFalls : Type 0
 EndlessFalls = (step : Profile → List ℕ → ℕ → Levels → LoopStep Levels Walk) (p : Profile) (s : List ℕ) → ((answer : Walk) → repeatFrom s (step p s) answer 0 atStart ≡ answer) → SamePayloadFor step → ⊥
 

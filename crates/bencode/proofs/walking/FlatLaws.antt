@@ -36,7 +36,7 @@ use Rattle.bencode.proofs.walking.OpenLevels.{andThen, Sound, FirstValu
 
 module _ (p : Profile) (s : List ℕ) where
   -- ---- a turn
-  -- what a turn at an offset comes to: what the payload's value does, or a stand further right
+  -- what a turn at an offset comes to: what the payload's value comes to, or a stand further right
   abbrev pub Lands : ℕ → LoopStep Levels Walk → Type 0
   Lands at (done w) = w ≡ FirstValue p s
   Lands at (next to y) = Past s at to × Stand p s (y .row) (y .depth) (y .level) (y .valued) to
