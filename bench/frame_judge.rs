@@ -13,12 +13,11 @@ fn refused(code: u8) -> Answer {
     }
 }
 
-/// An accepted one has the marks of its header, a refused one has none.
 #[inline(never)]
-pub fn judge(payload: &[u8], marks: u8) -> Answer {
+pub fn judge(payload: &[u8]) -> Answer {
     match first_class(payload) {
-        Class::Dictionary => handshake(payload, marks).unwrap_or(refused(bogsilver::NO_HANDSHAKE)),
-        Class::List => message(payload, marks).unwrap_or(refused(bogsilver::NO_MESSAGE)),
+        Class::Dictionary => handshake(payload).unwrap_or(refused(bogsilver::NO_HANDSHAKE)),
+        Class::List => message(payload).unwrap_or(refused(bogsilver::NO_MESSAGE)),
         _ => refused(bogsilver::NO_MESSAGE),
     }
 }
@@ -53,7 +52,7 @@ fn find<'a>(dictionary: &'a [u8], key: &[u8]) -> Option<&'a [u8]> {
     None
 }
 
-fn handshake(payload: &[u8], marks: u8) -> Option<Answer> {
+fn handshake(payload: &[u8]) -> Option<Answer> {
     let version = find(payload, b"version")?;
     let (min, max) = if first_class(version) == Class::Dictionary {
         let (min, max) = (find(version, b"min")?, find(version, b"max")?);
@@ -67,7 +66,6 @@ fn handshake(payload: &[u8], marks: u8) -> Option<Answer> {
     }
     Some(Answer {
         kind: bogsilver::HANDSHAKE,
-        marks,
         consumed: HEADER_LENGTH + payload.len(),
         value: Content {
             kind: bogsilver::VERSIONS,
@@ -79,7 +77,7 @@ fn handshake(payload: &[u8], marks: u8) -> Option<Answer> {
     })
 }
 
-fn message(payload: &[u8], marks: u8) -> Option<Answer> {
+fn message(payload: &[u8]) -> Option<Answer> {
     let (key, value) = string(&payload[1..])?;
     if first_class(value) == Class::End {
         return None;
@@ -104,7 +102,6 @@ fn message(payload: &[u8], marks: u8) -> Option<Answer> {
     Some(match content(KEYS[key].1, value, start) {
         Some(value) => Answer {
             kind: bogsilver::MESSAGE,
-            marks,
             consumed: HEADER_LENGTH + payload.len(),
             value,
             ..named

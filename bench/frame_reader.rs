@@ -34,13 +34,11 @@ pub fn read_strict(bytes: &[u8]) -> Answer {
 fn read_in(bytes: &[u8], strict: bool) -> Answer {
     let header = &bytes[..bytes.len().min(HEADER_LENGTH)];
     let mut length: u32 = 0;
-    let mut marks = 0;
     for (offset, &byte) in header.iter().enumerate() {
         let Some(digit) = char::from(byte).to_digit(16) else {
             return refused(2, offset);
         };
         length = length << 4 | digit;
-        marks |= u8::from(byte.is_ascii_lowercase()) << offset;
     }
     if header.len() < HEADER_LENGTH {
         return refused(1, 0);
@@ -54,22 +52,22 @@ fn read_in(bytes: &[u8], strict: bool) -> Answer {
     let Some(payload) = bytes.get(HEADER_LENGTH..HEADER_LENGTH + length as usize) else {
         return refused(1, 0);
     };
-    message(payload, marks, strict).unwrap_or_else(|| judge(payload, marks, strict))
+    message(payload, strict).unwrap_or_else(|| judge(payload, strict))
 }
 
 /// What is no plain message: the faults of the payload first, and then what it is.
 #[cold]
 #[inline(never)]
-fn judge(payload: &[u8], marks: u8, strict: bool) -> Answer {
+fn judge(payload: &[u8], strict: bool) -> Answer {
     match walker::walk(payload, strict) {
-        (0, _) => frame_judge::judge(payload, marks),
+        (0, _) => frame_judge::judge(payload),
         (code, offset) => refused(code, offset),
     }
 }
 
 /// A message that is accepted, in one walk; none where something is off, or only unusual.
 #[inline(always)]
-fn message(payload: &[u8], marks: u8, strict: bool) -> Option<Answer> {
+fn message(payload: &[u8], strict: bool) -> Option<Answer> {
     let (key, from) = scalars::string(after(Class::List, payload)?)?;
     let key = number(key);
     let format = KEYS[key].1;
@@ -86,7 +84,6 @@ fn message(payload: &[u8], marks: u8, strict: bool) -> Option<Answer> {
     Some(Answer {
         kind: bogsilver::MESSAGE,
         key: key as u8,
-        marks,
         tag,
         consumed: HEADER_LENGTH + payload.len(),
         value: match format {

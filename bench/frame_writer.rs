@@ -14,13 +14,8 @@ fn refused(code: u8) -> WriteAnswer {
     WriteAnswer { code, count: 0 }
 }
 
-pub fn write(key: u32, given: Given, tag: u32, out: &mut [u8]) -> WriteAnswer {
-    write_marked(key, given, tag, 0, out)
-}
-
-/// With the marked letters of the header in lower case; the first digit's mark is the lowest bit.
 #[inline(never)]
-pub fn write_marked(key: u32, given: Given, tag: u32, marks: u8, out: &mut [u8]) -> WriteAnswer {
+pub fn write(key: u32, given: Given, tag: u32, out: &mut [u8]) -> WriteAnswer {
     let number = key as usize;
     if number >= KEYS.len() || NOT_WRITTEN.contains(&number) {
         return refused(40);
@@ -38,8 +33,8 @@ pub fn write_marked(key: u32, given: Given, tag: u32, marks: u8, out: &mut [u8])
         2 + digits(u64::from(tag))
     };
     let size = 2 + string_length(name.len()) + value_length(format, given) + tag_length;
-    match headed(size, marks, out) {
-        Ok(mut rest) => put(&mut rest, name, format, given, tag).expect("the frame has room"),
+    match room(size, out) {
+        Ok(mut rest) => put(&mut rest, size, name, format, given, tag).expect("the frame has room"),
         Err(code) => return refused(code),
     }
     WriteAnswer {
@@ -48,8 +43,15 @@ pub fn write_marked(key: u32, given: Given, tag: u32, marks: u8, out: &mut [u8])
     }
 }
 
-fn put(out: &mut &mut [u8], name: &str, format: Format, given: Given, tag: u32) -> io::Result<()> {
-    write!(out, "l{}:{name}", name.len())?;
+fn put(
+    out: &mut &mut [u8],
+    size: usize,
+    name: &str,
+    format: Format,
+    given: Given,
+    tag: u32,
+) -> io::Result<()> {
+    write!(out, "{size:08X}l{}:{name}", name.len())?;
     match given {
         Given::Nothing => out.write_all(b"0:")?,
         Given::Integer(value) => write!(out, "i{value}e")?,
@@ -66,29 +68,12 @@ fn put(out: &mut &mut [u8], name: &str, format: Format, given: Given, tag: u32) 
     out.write_all(b"e")
 }
 
-/// Puts the header of a payload: the bytes for the payload, or the refusal's code.
-fn headed(size: usize, marks: u8, out: &mut [u8]) -> Result<&mut [u8], u8> {
+/// The bytes for a frame, or the refusal's code.
+fn room(size: usize, out: &mut [u8]) -> Result<&mut [u8], u8> {
     if size > LARGEST_PAYLOAD {
         return Err(43);
     }
-    let digits = digits_of(size, marks).ok_or(45)?;
-    let frame = out.get_mut(..HEADER_LENGTH + size).ok_or(44)?;
-    let (header, payload) = frame.split_at_mut(HEADER_LENGTH);
-    header.copy_from_slice(&digits);
-    Ok(payload)
-}
-
-/// A header's digits, the marked ones in lower case; none where one of those is no letter.
-fn digits_of(size: usize, marks: u8) -> Option<[u8; HEADER_LENGTH]> {
-    let mut digits = [0; HEADER_LENGTH];
-    write!(&mut digits[..], "{size:08X}").expect("a header has room for 32 bits");
-    for (place, digit) in digits.iter_mut().enumerate() {
-        if marks & 1 << place != 0 {
-            digit.is_ascii_alphabetic().then_some(())?;
-            digit.make_ascii_lowercase();
-        }
-    }
-    Some(digits)
+    out.get_mut(..HEADER_LENGTH + size).ok_or(44)
 }
 
 fn digits(number: u64) -> usize {
@@ -113,8 +98,8 @@ pub fn write_handshake(min: u32, max: u32, out: &mut [u8]) -> WriteAnswer {
         return refused(41);
     }
     let payload = format!("d7:versiond3:mini{min}e3:maxi{max}eee");
-    match headed(payload.len(), 0, out) {
-        Ok(rest) => rest.copy_from_slice(payload.as_bytes()),
+    match room(payload.len(), out) {
+        Ok(mut rest) => write!(rest, "{:08X}{payload}", payload.len()).expect("the frame has room"),
         Err(code) => return refused(code),
     }
     WriteAnswer {

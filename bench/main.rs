@@ -27,7 +27,6 @@ mod sort_time;
 mod sorter;
 mod time;
 mod walker;
-mod write_compare;
 
 /// The proved walker's code and offset.
 fn proved(payload: &[u8], strict: bool) -> (u8, usize) {

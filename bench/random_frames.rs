@@ -24,7 +24,6 @@ const EDGES: [i64; 12] = [
 pub fn frame(random: &mut Random, out: &mut Vec<u8>) {
     let mut payload = Vec::new();
     match random.below(8) {
-        _ if random.below(64) == 0 => long(random, &mut payload),
         0 => random::payload(random, &mut payload),
         1 => handshake(random, &mut payload),
         _ => message(random, &mut payload),
@@ -36,12 +35,11 @@ pub fn frame(random: &mut Random, out: &mut Vec<u8>) {
         _ => payload.len(),
     };
     out.clear();
-    out.extend_from_slice(format!("{length:08X}").as_bytes());
-    match random.below(4) {
-        0 => {}
-        1 => out.make_ascii_lowercase(),
-        _ => mix(random, out),
-    }
+    let header = match random.below(2) {
+        0 => format!("{length:08x}"),
+        _ => format!("{length:08X}"),
+    };
+    out.extend_from_slice(header.as_bytes());
     if random.below(24) == 0 {
         out[random.below(8)] = random.byte(b"gG/:@`\x00\xff");
     }
@@ -51,28 +49,6 @@ pub fn frame(random: &mut Random, out: &mut Vec<u8>) {
         1 => out.extend_from_slice(b"0000"),
         _ => {}
     }
-}
-
-/// Some of the letters in lower case.
-fn mix(random: &mut Random, header: &mut [u8]) {
-    for digit in header {
-        if random.below(2) == 0 {
-            digit.make_ascii_lowercase();
-        }
-    }
-}
-
-/// A message or a handshake of any size up to about the largest, so that the sixth digit of its header may be a letter.
-fn long(random: &mut Random, out: &mut Vec<u8>) {
-    let (open, close) = random.pick(&[
-        &("l6:failed", "e"),
-        &("l8:unlisted", "i15ee"),
-        &("d5:label", "7:versioni2ee"),
-        &("l4:port", "e"),
-    ]);
-    out.extend_from_slice(open.as_bytes());
-    put_string(&vec![b'x'; random.below(32_768)], out);
-    out.extend_from_slice(close.as_bytes());
 }
 
 fn message(random: &mut Random, out: &mut Vec<u8>) {

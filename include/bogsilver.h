@@ -54,8 +54,7 @@ enum {
     BOGSILVER_VALUE_REFUSED = 41,   /* off the format, or no range of versions */
     BOGSILVER_TAG_REFUSED = 42,
     BOGSILVER_PAYLOAD_TOO_LONG = 43,
-    BOGSILVER_NO_ROOM = 44,
-    BOGSILVER_MARK_REFUSED = 45     /* a mark on a digit of the header that is no letter; it comes before 44 */
+    BOGSILVER_NO_ROOM = 44
 };
 
 /* What is read; a refusal is of no kind. */
@@ -70,7 +69,7 @@ enum {
     BOGSILVER_VERSIONS = 4  /* of a handshake */
 };
 
-/* Kinds of value for bogsilver_write and bogsilver_write_marked; any other number is refused by 41. */
+/* Kinds of value for bogsilver_write; any other number is refused by 41. */
 enum { BOGSILVER_GIVEN_NOTHING = 0, BOGSILVER_GIVEN_INTEGER = 1, BOGSILVER_GIVEN_BYTES = 2 };
 
 /*
@@ -116,7 +115,6 @@ struct bogsilver_answer {
     uint8_t code;
     uint8_t kind;    /* 0 for every refusal, code 22 too */
     uint8_t key;     /* also for code 22 */
-    uint8_t marks;   /* lower case letters of the header: a bit for each digit, the first one's the lowest; 0 for a refusal */
     uint32_t tag;    /* 0: none; also for code 22 */
     size_t offset;   /* of the fault: for code 2 in the header, for 5 to 11 from the payload's start */
     size_t consumed; /* the frame's bytes where it is accepted */
@@ -170,20 +168,11 @@ struct bogsilver_walk_answer bogsilver_walk_flat(const uint8_t *bytes, size_t le
 
 /*
  * Writes a message at the front of out. The value is by its kind nothing, the integer, or the bytes as the reader would
- * name them: a text, or a list as it is encoded. A tag of 0 is none. The letters of the header are in upper case. Refused in
- * this order: 40, 41, 42, 43, 44. A refusal leaves out as it was; else the bytes after the frame are as they were.
+ * name them: a text, or a list as it is encoded. A tag of 0 is none. Refused in this order: 40, 41, 42, 43, 44. A
+ * refusal leaves out as it was; else the bytes after the frame are as they were.
  */
 struct bogsilver_write_answer bogsilver_write(uint32_t key, uint32_t kind, int64_t integer, const uint8_t *bytes,
                                               size_t length, uint32_t tag, uint8_t *out, size_t room);
-
-/*
- * Writes as bogsilver_write, but for the letters of the header that are marked, which it writes in lower case: a bit for each of
- * the 8 digits, the first digit's the lowest, as bogsilver_read passes them on. Refused in this order: 40, 41, 42, 43, 45 for a
- * mark on a digit that is no letter, 44. With marks 0 it is bogsilver_write.
- */
-struct bogsilver_write_answer bogsilver_write_marked(uint32_t key, uint32_t kind, int64_t integer, const uint8_t *bytes,
-                                                     size_t length, uint32_t tag, uint8_t marks, uint8_t *out,
-                                                     size_t room);
 
 /* Writes a handshake with a range of versions at the front of out. Refused by 41, then 44; out as above. */
 struct bogsilver_write_answer bogsilver_write_handshake(uint32_t min, uint32_t max, uint8_t *out, size_t room);

@@ -39,8 +39,6 @@ pub const VALUE_REFUSED: u8 = 41;
 pub const TAG_REFUSED: u8 = 42;
 pub const PAYLOAD_TOO_LONG: u8 = 43;
 pub const NO_ROOM: u8 = 44;
-/// A mark on a digit of the header that is no letter; it comes before 44.
-pub const MARK_REFUSED: u8 = 45;
 
 /// What is read; a refusal is of no kind.
 pub const NO_KIND: u8 = 0;
@@ -127,8 +125,6 @@ pub struct Answer {
     pub kind: u8,
     /// Also for code 22.
     pub key: u8,
-    /// Lower case letters of the header: a bit for each digit, the first one's the lowest; 0 for a refusal.
-    pub marks: u8,
     /// 0 is none; also for code 22.
     pub tag: u32,
     /// Of the fault: for code 2 in the header, for 5 to 11 from the payload's start.
@@ -188,17 +184,6 @@ extern "C" {
         out: *mut u8,
         room: usize,
     ) -> WriteAnswer;
-    fn bogsilver_write_marked(
-        key: u32,
-        kind: u32,
-        integer: i64,
-        bytes: *const u8,
-        length: usize,
-        tag: u32,
-        marks: u8,
-        out: *mut u8,
-        room: usize,
-    ) -> WriteAnswer;
     fn bogsilver_write_handshake(min: u32, max: u32, out: *mut u8, room: usize) -> WriteAnswer;
     fn bogsilver_sort(bytes: *const u8, length: usize, out: *mut u8, room: usize) -> SortAnswer;
     fn bogsilver_agreed_version(min: u32, max: u32, min2: u32, max2: u32) -> u32;
@@ -228,45 +213,13 @@ pub fn walk_flat(payload: &[u8], strict: bool) -> WalkAnswer {
     unsafe { bogsilver_walk_flat(payload.as_ptr(), payload.len(), strict) }
 }
 
-impl<'a> Given<'a> {
-    // The kind of value, the integer and the bytes.
-    fn numbers(self) -> (u32, i64, &'a [u8]) {
-        match self {
-            Given::Nothing => (GIVEN_NOTHING, 0, &[]),
-            Given::Integer(integer) => (GIVEN_INTEGER, integer, &[]),
-            Given::Bytes(bytes) => (GIVEN_BYTES, 0, bytes),
-        }
-    }
-}
-
 /// The key is one of the numbers above, or any u32; a bare number needs its type, as `14u32`.
 pub fn write(key: impl Into<u32>, given: Given, tag: u32, out: &mut [u8]) -> WriteAnswer {
-    let (kind, integer, bytes) = given.numbers();
-    write_numbers(key, kind, integer, bytes, tag, out)
-}
-
-/// Writes with the marked letters of the header in lower case, as `read` passes them on.
-pub fn write_marked(
-    key: impl Into<u32>,
-    given: Given,
-    tag: u32,
-    marks: u8,
-    out: &mut [u8],
-) -> WriteAnswer {
-    let (kind, integer, bytes) = given.numbers();
-    // SAFETY: each pointer and the length after it are those of one slice, and the two slices are apart.
-    unsafe {
-        bogsilver_write_marked(
-            key.into(),
-            kind,
-            integer,
-            bytes.as_ptr(),
-            bytes.len(),
-            tag,
-            marks,
-            out.as_mut_ptr(),
-            out.len(),
-        )
+    let key = key.into();
+    match given {
+        Given::Nothing => write_numbers(key, GIVEN_NOTHING, 0, &[], tag, out),
+        Given::Integer(integer) => write_numbers(key, GIVEN_INTEGER, integer, &[], tag, out),
+        Given::Bytes(bytes) => write_numbers(key, GIVEN_BYTES, 0, bytes, tag, out),
     }
 }
 

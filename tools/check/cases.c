@@ -1,8 +1,7 @@
 /*
  * Answers a stream of stored cases through include/bogsilver.h, a line each: `cases frame` those of frame_cases (`r` and `R`
- * read, in the loose and in the strict profile, `m` and `M` the same with the marks of lower case letters, `w` write, `W`
- * write with marks, `s` handshake, `a` agreed version), `cases payload` those of payload_cases (`l` and `s`, a walk in the
- * loose and in the strict profile, `L` and `S`, the same by one loop, `o` sort).
+ * read, in the loose and in the strict profile, `w` write, `s` handshake, `a` agreed version), `cases payload` those of
+ * payload_cases (`l` and `s`, a walk in the loose and in the strict profile, `L` and `S`, the same by one loop, `o` sort).
  * Before each write the buffer is filled with a pattern, and a byte that should have stayed and did not is said in the line.
  */
 #include "bogsilver.h"
@@ -41,24 +40,7 @@ static void print_reading(struct bogsilver_answer a)
     const char *kind = message ? "m" : a.kind == BOGSILVER_HANDSHAKE ? "h" : "-";
     printf("%u %zu %zu %s %u %" PRIu32 " ", a.code, a.offset, a.consumed, kind, a.key, a.tag);
     print_value(&a.value);
-}
-
-static int print_read(struct bogsilver_answer a)
-{
-    print_reading(a);
     printf("\n");
-    return 1;
-}
-
-/* with the marks, first digit first */
-static int print_marked(struct bogsilver_answer a)
-{
-    print_reading(a);
-    printf(" ");
-    for (int i = 0; i < BOGSILVER_HEADER_LENGTH; i++)
-        printf("%c", a.marks >> i & 1 ? 'l' : '.');
-    printf("\n");
-    return 1;
 }
 
 static void fill(size_t room)
@@ -96,19 +78,6 @@ static int print_message(size_t length)
     size_t room = number_at(17);
     fill(room);
     print_written(bogsilver_write(number_at(0), body[4], (int64_t)integer, body + 21, length - 21, number_at(13), out, room),
-                  room);
-    return 1;
-}
-
-static int print_marked_message(size_t length)
-{
-    if (length < 22 || number_at(17) > sizeof out)
-        return 0;
-    uint64_t integer = number_at(5) | (uint64_t)number_at(9) << 32;
-    size_t room = number_at(17);
-    fill(room);
-    print_written(bogsilver_write_marked(number_at(0), body[4], (int64_t)integer, body + 22, length - 22, number_at(13),
-                                         body[21], out, room),
                   room);
     return 1;
 }
@@ -156,12 +125,9 @@ static int answer_payload(int operation, size_t length)
 static int answer_frame(int operation, size_t length)
 {
     switch (operation) {
-    case 'r': return print_read(bogsilver_read(body, length));
-    case 'R': return print_read(bogsilver_read_strict(body, length));
-    case 'm': return print_marked(bogsilver_read(body, length));
-    case 'M': return print_marked(bogsilver_read_strict(body, length));
+    case 'r': print_reading(bogsilver_read(body, length)); return 1;
+    case 'R': print_reading(bogsilver_read_strict(body, length)); return 1;
     case 'w': return print_message(length);
-    case 'W': return print_marked_message(length);
     case 's': return print_handshake(length);
     case 'a':
         if (length != 16)

@@ -1,5 +1,5 @@
-"""Wrong sorters, strict readers, walkers with one loop, and readers and
-writers of the header's letters, held against the stored cases.
+"""Wrong sorters, strict readers and walkers with one loop, held against the
+stored cases.
 
 Each one is a build with one mistake. Prints how many lines of the stored
 cases it gets wrong, and fails if there is one that gets none wrong: then the
@@ -12,7 +12,6 @@ import pathlib
 import struct
 import sys
 
-from check.wrong_letters import Letters, Writer
 from check.wrong_walkers import Flat
 from oracle import frame, payload
 from oracle.canonical import LARGEST_PAYLOAD, Reader
@@ -439,20 +438,9 @@ def reader_line(parser):
     return line
 
 
-def profile_line(build):
-    """A build's line, of a body and whether the profile is strict."""
+def flat_line(build):
+    """A walker's line, of a body and whether the profile is strict."""
     return lambda case: build(*case).line()
-
-
-def in_profiles(crate, loose, strict):
-    """The cases of two operations, and which of them are strict."""
-    return [((body, operation == strict), text)
-            for operation in (loose, strict)
-            for body, text in stored(crate, operation)]
-
-
-def writer_line(build):
-    return lambda body: build(body).line()
 
 
 def subclasses(kind):
@@ -469,20 +457,15 @@ def main():
     missed = 0
     sorting = list(stored("payload_cases", b"o"))
     reading = list(stored("frame_cases", b"R"))
-    walking = in_profiles("payload_cases", b"L", b"S")
-    letters = in_profiles("frame_cases", b"m", b"M")
-    writing = list(stored("frame_cases", b"W"))
+    walking = [((body, operation == b"S"), text) for operation in (b"L", b"S")
+               for body, text in stored("payload_cases", operation)]
     assert wrong_lines(Sorter().line, sorting) == 0
     assert wrong_lines(reader_line(Keys), reading) == 0
-    assert walking and wrong_lines(profile_line(Flat), walking) == 0
-    assert letters and wrong_lines(profile_line(Letters), letters) == 0
-    assert writing and wrong_lines(writer_line(Writer), writing) == 0
+    assert walking and wrong_lines(flat_line(Flat), walking) == 0
     for title, kind, cases, line_of in (
             ("sorters", Sorter, sorting, lambda build: build().line),
             ("strict readers", Keys, reading, reader_line),
-            ("walkers with one loop", Flat, walking, profile_line),
-            ("readers of letters", Letters, letters, profile_line),
-            ("writers of letters", Writer, writing, writer_line)):
+            ("walkers with one loop", Flat, walking, flat_line)):
         print("%s, %d cases" % (title, len(cases)))
         for build in subclasses(kind):
             wrong = wrong_lines(line_of(build), cases)

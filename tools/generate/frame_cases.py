@@ -3,14 +3,10 @@
 A case is one byte of operation, a length in 4 bytes, little-endian, and so
 many bytes of body; its line is what oracle.frame.line gives. The last case
 is cut short. Operations: r read, w write, s write a handshake, a agreed
-version, R read in the strict profile; m, M and W, in letter_cases, read in
-both profiles and write, with marks of the header's lower case letters.
+version, R read in the strict profile.
 
 In tools/, python3 -B -m generate.frame_cases FOLDER writes FOLDER/stdin and
 FOLDER/stdout: the same on every run, since all choices come from a fixed seed.
-With a number N after FOLDER it writes every N-th case only, and the cut one,
-for `rt try`, where a program may print 1 MiB and no more: 3 is within that
-bound. An odd N meets both profiles, which often stand by turns.
 """
 
 import itertools
@@ -24,14 +20,14 @@ from generate.encoded import (
     random_value, string)
 from generate.key_texts import (
     CHOSEN, KEY_TEXTS, NO_KEYS, damaged, random_key, run)
-from generate.letter_cases import hold, letter_cases
 from generate.payload_cases import (
     BETWEEN, EXAMPLES, FAULTY, FRAMES, SCOPE, SOUND)
 from oracle.canonical import sort
 from oracle.frame import FAULT, MAX_PAYLOAD, TABLE, line, read, write
 
 MAX_BODY = 131072
-SIZE_LIMIT = 4300000
+SIZE_LIMIT = 3000000
+LINES_LIMIT = 1040000  # a program that is tried may print 1 MiB
 KEYS = [key for key, _ in TABLE]
 LARGEST = 2147483647
 
@@ -909,23 +905,16 @@ def strict_cases():
         yield b"R", body
 
 
-def made_cases():
-    """All cases but the cut one. New ones stand after all older ones."""
-    older = itertools.chain(read_cases(), write_cases(), strict_cases())
-    return dict.fromkeys(itertools.chain(
-        older, letter_cases(body for _, body in read_cases())))
-
-
-def main(folder, step):
+def main(folder):
+    made = itertools.chain(read_cases(), write_cases(), strict_cases())
     cases, lines, counts = bytearray(), bytearray(), {}
-    for operation, body in itertools.islice(made_cases(), 0, None, step):
+    for operation, body in dict.fromkeys(made):
         assert len(body) <= MAX_BODY
         text = line(operation, body)
         assert text != FAULT
         # The strict profile adds 11, and nothing else.
         assert (operation != b"R" or text.startswith("11 ")
                 or text == line(b"r", body))
-        hold(operation, body, text)
         cases += operation + struct.pack("<I", len(body)) + body
         lines += text.encode() + b"\n"
         row = counts.setdefault(operation.decode(), {})
@@ -933,7 +922,7 @@ def main(folder, step):
         row[code] = row.get(code, 0) + 1
     cases += b"r" + struct.pack("<I", 18) + b"0000000Al4:noop0:"
     lines += FAULT.encode() + b"\n"
-    assert len(cases) <= SIZE_LIMIT
+    assert len(cases) <= SIZE_LIMIT and len(lines) <= LINES_LIMIT
     (folder / "stdin").write_bytes(cases)
     (folder / "stdout").write_bytes(lines)
     for operation, row in counts.items():
@@ -942,6 +931,6 @@ def main(folder, step):
 
 
 if __name__ == "__main__":
-    if not 2 <= len(sys.argv) <= 3:
-        sys.exit("usage: python3 -B -m generate.frame_cases FOLDER [N]")
-    main(pathlib.Path(sys.argv[1]), int((*sys.argv, 1)[2]))
+    if len(sys.argv) != 2:
+        sys.exit("usage: python3 -B -m generate.frame_cases FOLDER")
+    main(pathlib.Path(sys.argv[1]))

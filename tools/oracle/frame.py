@@ -7,19 +7,8 @@ unlisted value, `hMIN,MAX` handshake. Value offsets count from the frame's
 first byte, those of faults 5 to 11 from the payload's. The strict profile
 differs from the loose one in the payload's walk alone.
 
-read_marks(data, strict) gives the marks of the header's lower case letters as
-one number: bit i for digit i, and the first digit is bit 0. A frame that is
-refused, by 22 too, has none.
-
 write and write_handshake give code, count and frame; agreed gives a version.
-write takes marks too: a marked letter of the header is written in lower case,
-the others in upper case, and a mark on a digit 0 to 9 is refused by 45, after
-43 and before 44. write_handshake writes upper case.
-
 line(operation, body) is the line that the conformance program prints.
-Operations: r and R read, in the loose and in the strict profile; m and M the
-same, with eight marks after it, `l` or `.`; w write a message, in upper case;
-W write it with marks; s write a handshake; a agreed version.
 
 In tools/, python3 -B -m oracle.frame --self-test checks the examples of the
 rules.
@@ -36,7 +25,6 @@ MAX_PAYLOAD = 32768
 MAX_NUMBER = 2147483647  # of a tag, a torrent ID and a version
 MAX_PORT = 65535
 HEX_DIGITS = frozenset(b"0123456789abcdefABCDEF")
-LOWER_CASE, UPPER_CASE = b"abcdef", b"ABCDEF"
 NOTHING, INTEGER, BYTES = 0, 1, 2  # kinds of value handed to the writer
 FAULT = "case fault"
 
@@ -185,14 +173,6 @@ def read_handshake(value, consumed):
     return Answer(0, 0, consumed, "h", 0, 0, "h%d,%d" % (least, most))
 
 
-def read_marks(data, strict=False):
-    """Which of the header's digits are lower case letters, as one number."""
-    if read(data, strict).code:
-        return 0
-    return sum(1 << place for place, byte in enumerate(data[:8])
-               if byte in LOWER_CASE)
-
-
 def is_range(least, most):
     return 1 <= least <= most <= MAX_NUMBER
 
@@ -221,9 +201,8 @@ def value_bytes(form, kind, integer, data):
     return None
 
 
-def write(key, value_kind, integer, tag, room, data, marks=0):
-    """Code, byte count and frame for one message; 0 is no tag. The letters
-    of the header that are marked are written in lower case."""
+def write(key, value_kind, integer, tag, room, data):
+    """Code, byte count and frame for one message; 0 is no tag."""
     if not 1 <= key <= len(TABLE) or key in NOT_WRITTEN:
         return 40, 0, b""
     name, form = TABLE[key - 1]
@@ -236,7 +215,7 @@ def write(key, value_kind, integer, tag, room, data, marks=0):
     payload = b"l%d:%s%s%se" % (len(name), name, value, ending)
     if len(payload) > MAX_PAYLOAD:
         return 43, 0, b""
-    return lend(payload, room, marks)
+    return lend(payload, room)
 
 
 def write_handshake(least, most, room):
@@ -246,14 +225,8 @@ def write_handshake(least, most, room):
     return lend(b"d7:versiond3:mini%de3:maxi%deee" % (least, most), room)
 
 
-def lend(payload, room, marks=0):
-    header = bytearray(b"%08X" % len(payload))
-    for place in range(8):
-        if marks >> place & 1:
-            if header[place] not in UPPER_CASE:
-                return 45, 0, b""
-            header[place] = LOWER_CASE[UPPER_CASE.index(header[place])]
-    frame = bytes(header) + payload
+def lend(payload, room):
+    frame = b"%08X%s" % (len(payload), payload)
     if room < len(frame):
         return 44, 0, b""
     return 0, len(frame), frame
@@ -266,25 +239,13 @@ def written_line(answer):
     return "%d %d" % (code, count) + (" " + frame.hex() if count else "")
 
 
-def shown(marks):
-    """Eight marks, first digit first."""
-    return "".join(".l"[marks >> place & 1] for place in range(8))
-
-
 def line(operation, body):
     """The line for one case, without its newline."""
     if operation in (b"r", b"R"):
         return " ".join(map(str, read(body, operation == b"R")))
-    if operation in (b"m", b"M"):
-        strict = operation == b"M"
-        return " ".join([*map(str, read(body, strict)),
-                         shown(read_marks(body, strict))])
     if operation == b"w" and len(body) >= 21 and body[4] <= BYTES:
         fields = struct.unpack("<IBqII", body[:21])
         return written_line(write(*fields, body[21:]))
-    if operation == b"W" and len(body) >= 22 and body[4] <= BYTES:
-        *fields, marks = struct.unpack("<IBqIIB", body[:22])
-        return written_line(write(*fields, body[22:], marks))
     if operation == b"s" and len(body) == 12:
         return written_line(write_handshake(*struct.unpack("<III", body)))
     if operation == b"a" and len(body) == 16:
@@ -428,97 +389,6 @@ WRITINGS = [
     ((6, 2, 0, 2**31, 0, b"x" * 32753), 42, b""),
 ]
 
-# Frames and their marks, by hand: in both profiles, but for 11.
-MARKS = [
-    (b"0000000fl4:porti65535ee", "0 0 23 m 14 0 i65535 .......l"),
-    (b"0000000Fl4:porti65535ee", "0 0 23 m 14 0 i65535 ........"),
-    (b"00000012l5:startli8eei15ee", "0 0 26 m 16 15 p16,5 ........"),
-    (b"0000000al4:noop0:e0000000A", "0 0 18 m 11 0 - .......l"),
-    (b"0000000Al4:noop0:e0000000a", "0 0 18 m 11 0 - ........"),
-    (b"0000000bl1:z4:beefe", "0 0 19 m 0 0 p12,6 .......l"),
-    (b"0000000ed7:versioni3ee", "0 0 22 h 0 0 h3,3 .......l"),
-    (b"0000001dd7:versiond3:maxi2e3:mini1eee",
-     "0 0 37 h 0 0 h1,2 .......l"),
-    (b"0000001Dd7:versiond3:maxi2e3:mini1eee",
-     "0 0 37 h 0 0 h1,2 ........"),
-    # Around the text: l, 6:failed, its length with a colon, and e.
-    (b"000000AFl6:failed161:" + b"F" * 161 + b"e",
-     "0 0 183 m 6 0 t21,161 ........"),
-    (b"000000Afl6:failed161:" + b"F" * 161 + b"e",
-     "0 0 183 m 6 0 t21,161 .......l"),
-    (b"000000aFl6:failed161:" + b"F" * 161 + b"e",
-     "0 0 183 m 6 0 t21,161 ......l."),
-    (b"000000afl6:failed161:" + b"F" * 161 + b"e",
-     "0 0 183 m 6 0 t21,161 ......ll"),
-    (b"00000a5cl6:failed2637:" + b"f" * 2637 + b"e",
-     "0 0 2660 m 6 0 t22,2637 .....l.l"),
-    (b"00007fFfl6:failed32751:" + b"f" * 32751 + b"e",
-     "0 0 32775 m 6 0 t23,32751 .....l.l"),
-    # Refusals show none.
-    (b"0000000fl4:porti65536ee", "22 0 0 m 14 0 - ........"),
-    (b"0000000dl3:pexi2ei7eei", "22 0 0 m 13 7 - ........"),
-    (b"0000000al4:noop0:", "1 0 0 - 0 0 - ........"),
-    (b"000000a", "1 0 0 - 0 0 - ........"),
-    (b"00007fff", "1 0 0 - 0 0 - ........"),
-    (b"000000agl4:noop0:e", "2 7 0 - 0 0 - ........"),
-    (b"7ffffff9", "3 0 0 - 0 0 - ........"),
-    (b"7fffFff8", "4 0 0 - 0 0 - ........"),
-    (b"0000abcd", "4 0 0 - 0 0 - ........"),
-    (b"0000000al4:noop0:x", "5 9 0 - 0 0 - ........"),
-    (b"0000001al1:xi9223372036854775808ee", "6 4 0 - 0 0 - ........"),
-    (b"0000002a" + b"l" * 21 + b"e" * 21, "7 16 0 - 0 0 - ........"),
-    (b"0000000ed1:ai1e1:ai2ee", "8 7 0 - 0 0 - ........"),
-    (b"0000000cl4:noop0:exx", "9 10 0 - 0 0 - ........"),
-    (b"0000000fl4:noopd1:\xff0:ee", "10 8 0 - 0 0 - ........"),
-    (b"0000000bl7:succeede", "20 0 0 - 0 0 - ........"),
-    (b"0000000ed7:versioni0ee", "21 0 0 - 0 0 - ........"),
-]
-
-# Frames and their marks in the strict profile, by hand.
-STRICT_MARKS = [
-    (b"0000001dd7:versiond3:mini1e3:maxi2eee",
-     "11 19 0 - 0 0 - ........"),
-    (b"0000000ed1:bi1e1:ai2ee", "11 7 0 - 0 0 - ........"),
-    (b"0000001cl4:infold2:idi5e4:name1:xeee",
-     "0 0 36 m 10 0 p15,20 .......l"),
-]
-
-# Key, value kind, integer, tag, room, bytes handed in, marks; code and frame.
-MARKED_WRITINGS = [
-    ((14, 1, 65535, 0, 23, b"", 128), 0, b"0000000fl4:porti65535ee"),
-    ((14, 1, 65535, 0, 23, b"", 0), 0, b"0000000Fl4:porti65535ee"),
-    ((11, 0, 0, 0, 18, b"", 128), 0, b"0000000al4:noop0:e"),
-    ((6, 2, 0, 0, 999, b"F" * 161, 192), 0,
-     b"000000afl6:failed161:" + b"F" * 161 + b"e"),
-    ((6, 2, 0, 0, 999, b"F" * 161, 128), 0,
-     b"000000Afl6:failed161:" + b"F" * 161 + b"e"),
-    ((6, 2, 0, 0, 999, b"F" * 161, 64), 0,
-     b"000000aFl6:failed161:" + b"F" * 161 + b"e"),
-    ((6, 2, 0, 0, 999, b"F" * 161, 32), 45, b""),
-    ((6, 2, 0, 0, 9999, b"f" * 2637, 160), 0,
-     b"00000a5cl6:failed2637:" + b"f" * 2637 + b"e"),
-    ((6, 2, 0, 0, 9999, b"f" * 2637, 64), 45, b""),
-    # The first five digits are never letters; a header may have none.
-    *(((14, 1, 65535, 0, 23, b"", 128 | 1 << place), 45, b"")
-      for place in range(7)),
-    ((14, 1, 65535, 0, 23, b"", 255), 45, b""),
-    ((18, 2, 0, 15, 99, b"li8ee", 128), 45, b""),
-    ((16, 2, 0, 15, 99, b"li8ee", 128), 45, b""),
-    ((16, 2, 0, 15, 99, b"li8ee", 0), 0, b"00000012l5:startli8eei15ee"),
-    # 45 comes after 43 and before 44.
-    ((14, 1, 65535, 0, 22, b"", 128), 44, b""),
-    ((14, 1, 65535, 0, 22, b"", 64), 45, b""),
-    ((14, 1, 65535, 0, 0, b"", 1), 45, b""),
-    ((14, 1, 65536, 0, 0, b"", 1), 41, b""),
-    ((14, 1, 1, 2**31, 0, b"", 1), 42, b""),
-    ((8, 2, 0, 2**31, 0, b"le", 1), 40, b""),
-    ((6, 2, 0, 0, 0, b"x" * 32753, 255), 43, b""),
-    ((6, 2, 0, 0, 0, b"x" * 32752, 255), 45, b""),
-    ((6, 2, 0, 0, 0, b"x" * 32751, 224), 44, b""),
-    ((6, 2, 0, 0, 32775, b"f" * 32751, 160), 0,
-     b"00007fFfl6:failed32751:" + b"f" * 32751 + b"e"),
-]
-
 AGREEMENTS = [
     ((1, 2, 1, 2), 2), ((1, 1, 1, 2), 1), ((1, 1, 2, 2), 0),
     ((2, 9, 3, 5), 5), ((0, 2, 1, 2), 0), ((2, 1, 1, 2), 0),
@@ -537,13 +407,7 @@ def self_test():
         if wrong:
             expected = (22, 0, 0, "m", key, 0, "-")
             assert read(b"%08x%s" % (len(wrong), wrong)) == expected, wrong
-    for data, expected in MARKS:
-        for operation in (b"m", b"M"):
-            answer = line(operation, data)
-            assert answer == expected, (data[:40], answer)
-    for data, expected in STRICT_MARKS:
-        assert line(b"M", data) == expected, (data, line(b"M", data))
-    for arguments, code, frame in WRITINGS + MARKED_WRITINGS:
+    for arguments, code, frame in WRITINGS:
         answer = write(*arguments)
         assert answer == (code, len(frame), frame), (arguments[:5], answer)
     for arguments, version in AGREEMENTS:
@@ -557,20 +421,13 @@ def self_test():
     assert line(b"a", b"\x01\0\0\0\x02\0\0\0" * 2) == "2"
     pex = b"\x0d\0\0\0\x01" + bytes(8) + b"\x07\0\0\0\x15\0\0\0"
     assert line(b"w", pex) == "0 21 " + b"0000000Dl3:pexi0ei7ee".hex()
-    assert line(b"W", pex + b"\x80") == (
-        "0 21 " + b"0000000dl3:pexi0ei7ee".hex())
-    assert line(b"W", pex + b"\0") == line(b"w", pex)
-    assert line(b"W", pex + b"\x81") == "45 0"
-    text = b"\x06\0\0\0\x02" + bytes(12) + b"\x15\0\0\0\x80a"
-    assert line(b"W", text) == "0 21 " + b"0000000dl6:failed1:ae".hex()
     kind = pex[:4] + b"\x03" + pex[5:]
-    for operation, body in ((b"w", pex[:-1]), (b"w", kind), (b"W", pex),
-                            (b"W", kind + b"\0"), (b"s", b""),
+    for operation, body in ((b"w", pex[:-1]), (b"w", kind), (b"s", b""),
                             (b"a", b"12345"), (b"x", b"")):
         assert line(operation, body) == FAULT, (operation, body)
-    frames = TO_TRY + READINGS + STRICT_READINGS + MARKS + STRICT_MARKS
-    print("self-test passed:", len(frames), "frames read,",
-          len(WRITINGS + MARKED_WRITINGS), "messages written")
+    print("self-test passed:", len(TO_TRY + READINGS + STRICT_READINGS),
+          "frames read,",
+          len(WRITINGS), "messages written")
 
 
 if __name__ == "__main__":

@@ -2,11 +2,11 @@
 ghost use Rattle.std.specs.Prelude.{◌≡◌, length};
 ghost use Rattle.ipc.specs.Writer.{Leaves};
 ghost use Rattle.c_api.specs.Written.{WrittenAs};
-ghost use Rattle.c_api.specs.Offered.{offered, unknown_code, offered_answer, offered_frame};
+ghost use Rattle.c_api.specs.Offered.{offered, unknown_code, offered_answer, offered_payload};
 
 use super::offered::{Offered, offered_of};
 use super::written::{WriteAnswer, write_answer_of};
-use ipc::{Marks, Written, is_written};
+use ipc::{Written, is_written};
 
 // The refusal of a value of no kind: a key that is not written comes first.
 fn unknown_code(key: u8) -> u8
@@ -19,45 +19,17 @@ fn unknown_code(key: u8) -> u8
     }
 }
 
-fn write_offered(
-    key: u8,
-    value: Offered,
-    s: &[u8],
-    tag: u32,
-    marks: Marks,
-    out: &mut [u8],
-) -> Written
-    ensures { Leaves (offered_answer key value s.now tag marks.0 (length out.old)) (offered_frame key value s.now tag marks.0) out.old result out.new }
+fn write_offered(key: u8, value: Offered, s: &[u8], tag: u32, out: &mut [u8]) -> Written
+    ensures { Leaves (offered_answer key value s.now tag (length out.old)) (offered_payload key value s.now tag) out.old result out.new }
 {
     match value {
-        Offered::Given(given) => ipc::write(key, given, s, tag, marks, out),
+        Offered::Given(given) => ipc::write(key, given, s, tag, out),
         Offered::Unknown => Written::Refused(unknown_code(key)),
     }
 }
 
 // Writes a message at the front of a buffer, or refuses and writes nothing. The value is the integer or the bytes, by
-// its kind; a tag of 0 is none. Marks are a bit for each digit of the header, the first digit's the lowest, on the letters
-// that are written in lower case.
-#[unsafe(no_mangle)]
-pub extern "C" fn bogsilver_write_marked(
-    key: u32,
-    kind: u32,
-    integer: i64,
-    s: &[u8],
-    tag: u32,
-    marks: u8,
-    out: &mut [u8],
-) -> WriteAnswer
-    ensures { WrittenAs (offered_answer key (offered kind integer) s.now tag marks (length out.old)) (offered_frame key (offered kind integer) s.now tag marks) out.old result out.new }
-{
-    if 255 < key {
-        return write_answer_of(Written::Refused(Written::KEY));
-    }
-    let value = offered_of(kind, integer);
-    write_answer_of(write_offered(key as u8, value, s, tag, Marks(marks), out))
-}
-
-// The same with no marks: the header is written in upper case.
+// its kind; a tag of 0 is none.
 #[unsafe(no_mangle)]
 pub extern "C" fn bogsilver_write(
     key: u32,
@@ -67,7 +39,11 @@ pub extern "C" fn bogsilver_write(
     tag: u32,
     out: &mut [u8],
 ) -> WriteAnswer
-    ensures { WrittenAs (offered_answer key (offered kind integer) s.now tag 0 (length out.old)) (offered_frame key (offered kind integer) s.now tag 0) out.old result out.new }
+    ensures { WrittenAs (offered_answer key (offered kind integer) s.now tag (length out.old)) (offered_payload key (offered kind integer) s.now tag) out.old result out.new }
 {
-    bogsilver_write_marked(key, kind, integer, s, tag, 0, out)
+    if 255 < key {
+        return write_answer_of(Written::Refused(Written::KEY));
+    }
+    let value = offered_of(kind, integer);
+    write_answer_of(write_offered(key as u8, value, s, tag, out))
 }

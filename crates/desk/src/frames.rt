@@ -15,7 +15,7 @@ use super::limit::Limit;
 use super::lists::{Pick, picks};
 use super::record::Desk;
 use bencode::put_integer;
-use ipc::{Given, Marks, Written, write};
+use ipc::{Given, Written, write};
 use octets::put_bytes;
 
 // The numbers of the keys that the desk writes.
@@ -33,7 +33,7 @@ pub const NO_TAG: u32 = 0;
 // The bytes of a list that holds nothing.
 const EMPTY_LIST: usize = 2;
 
-// Puts the frame of a message, in upper case: the frame writer is lent the buffer from an offset on.
+// Puts the frame of a message: the frame writer is lent the buffer from an offset on.
 fn put_message(out: &mut [u8], at: usize, key: u8, given: Given, s: &[u8], tag: u32) -> usize
     requires { Writable tag key given s.now }
     ensures { Put out.old at (message_frame tag key given s.now) out.new result }
@@ -41,7 +41,7 @@ fn put_message(out: &mut [u8], at: usize, key: u8, given: Given, s: &[u8], tag: 
     if out.len() < at {
         return at;
     }
-    match write(key, given, s, tag, Marks::NONE, &mut out[at..]) {
+    match write(key, given, s, tag, &mut out[at..]) {
         Written::Count(n) => at + n,
         Written::Refused(_) => at,
     }

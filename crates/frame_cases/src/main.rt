@@ -1,12 +1,12 @@
-// Answers a stream of cases, a line for each: `r` reads a frame, `R` by the strict reader, `m` and `M` say its marks too, `w`
-// writes a message, `W` with marks, `s` writes a handshake and `a` gives the version that two ranges agree on.
+// Answers a stream of cases, a line for each: `r` reads a frame, `R` by the strict reader, `w` writes a message, `s` writes a
+// handshake and `a` gives the version that two ranges agree on.
 mod number;
 mod reading;
 mod written;
 
 use ipc::numbers_of;
-use reading::{print_marked, print_reading};
-use written::{print_agreed, print_handshake, print_marked_message, print_message};
+use reading::print_reading;
+use written::{print_agreed, print_handshake, print_message};
 
 // Answers a case, or says that its operation is none or its body does not fit.
 fn answer_case(operation: u8, body: &[u8], out: &mut [u8]) -> bool {
@@ -19,16 +19,7 @@ fn answer_case(operation: u8, body: &[u8], out: &mut [u8]) -> bool {
             print_reading(numbers_of(ipc::read_strict(body)));
             true
         }
-        b'm' => {
-            print_marked(numbers_of(ipc::read(body)));
-            true
-        }
-        b'M' => {
-            print_marked(numbers_of(ipc::read_strict(body)));
-            true
-        }
         b'w' => print_message(body, out),
-        b'W' => print_marked_message(body, out),
         b's' => print_handshake(body, out),
         b'a' => print_agreed(body),
         _ => false,

@@ -1,9 +1,6 @@
-// A reading as a line: `code offset consumed kind key tag value`, and where they are asked for the marks.
+// A reading as a line: `code offset consumed kind key tag value`.
 use cases::{print, print_number};
 use ipc::{Numbers, ValueNumbers};
-
-// The digits of a header.
-const DIGITS: usize = 8;
 
 // A number and a space.
 fn print_field(n: u64) {
@@ -51,7 +48,7 @@ fn print_kind(kind: u8, code: u8) {
     print(b"- ");
 }
 
-fn print_answer(answer: Numbers) {
+pub fn print_reading(answer: Numbers) {
     print_field(answer.code as u64);
     print_field(answer.offset as u64);
     print_field(answer.consumed as u64);
@@ -60,29 +57,5 @@ fn print_answer(answer: Numbers) {
     print_field(answer.tag as u64);
     let value = answer.value;
     print_value(value);
-}
-
-// The marks, first digit first: `l` for a lower case letter.
-fn print_marks(marks: u8) {
-    let mut left = marks;
-    for _ in 0..DIGITS {
-        if left % 2 == 1 {
-            print(b"l");
-        } else {
-            print(b".");
-        }
-        left = left / 2;
-    }
-}
-
-pub fn print_reading(answer: Numbers) {
-    print_answer(answer);
-    print(b"\n");
-}
-
-pub fn print_marked(answer: Numbers) {
-    print_answer(answer);
-    print(b" ");
-    print_marks(answer.marks);
     print(b"\n");
 }

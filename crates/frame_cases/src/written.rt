@@ -1,13 +1,11 @@
 // What a writer did as a line: `code count`, and a frame in lower case hex digits.
 use super::number::{integer_at, number_at};
 use cases::{print, print_bytes, print_number};
-use ipc::{Given, Marks, Written, agreed_version, write, write_handshake};
+use ipc::{Given, Written, agreed_version, write, write_handshake};
 use octets::byte_at;
 
-// The bytes of a case of `w` or `W` before those that are handed in, and of cases of `s` and `a`.
+// The bytes of a case of `w` before those that are handed in, and of cases of `s` and `a`.
 const MESSAGE_HEAD: usize = 21;
-
-const MARKED_HEAD: usize = 22;
 
 const HANDSHAKE_BODY: usize = 12;
 
@@ -45,28 +43,19 @@ fn given_of(kind: u8, body: &[u8]) -> Given {
     }
 }
 
-// Key (4), kind of the value (1), integer (8), tag (4), room (4), and after the head the bytes handed in.
-fn print_handed(body: &[u8], head: usize, marks: Marks, out: &mut [u8]) -> bool {
+// Key (4), kind of the value (1), integer (8), tag (4), room (4), the bytes handed in.
+pub fn print_message(body: &[u8], out: &mut [u8]) -> bool {
     let kind = byte_at(body, 4);
     let room = number_at(body, 17) as usize;
-    if body.len() < head || 2 < kind || out.len() < room {
+    if body.len() < MESSAGE_HEAD || 2 < kind || out.len() < room {
         return false;
     }
     let key = key_of(number_at(body, 0));
     let tag = number_at(body, 13);
     let given = given_of(kind, body);
-    let written = write(key, given, &body[head..], tag, marks, &mut out[..room]);
+    let written = write(key, given, &body[MESSAGE_HEAD..], tag, &mut out[..room]);
     print_written(written, out);
     true
-}
-
-pub fn print_message(body: &[u8], out: &mut [u8]) -> bool {
-    print_handed(body, MESSAGE_HEAD, Marks::NONE, out)
-}
-
-// With the marks (1) after the room.
-pub fn print_marked_message(body: &[u8], out: &mut [u8]) -> bool {
-    print_handed(body, MARKED_HEAD, Marks(byte_at(body, MESSAGE_HEAD)), out)
 }
 
 // Min, max and room (4 each).

@@ -102,7 +102,7 @@ digits_of (suc k) (c ∷ cs) = go (dec_lt (hex_value c) 16) (digits_of k cs)
     go (no h) d = other [] cs c refl none (omega arith) (omega arith)
 
 -- a fault's code is one from 5 to 11
-pub fault_code : (profile : Profile) (c : ℕ) → is_fault_code profile c ≡ true → (5 ≤ c) × (c ≤ 11)
+fault_code : (profile : Profile) (c : ℕ) → is_fault_code profile c ≡ true → (5 ≤ c) × (c ≤ 11)
 fault_code profile c e = go (leb 5 c) refl (leb c 10) refl profile e
   where
     order : (profile : Profile) → is_order_code profile c ≡ true → (5 ≤ c) × (c ≤ 11)
@@ -119,24 +119,24 @@ other_code : {X : Type 0} (c : ℕ) → 0 < c → c < 20 → (c ≡ 0) ⊎ (20 �
 other_code c l h judged = absurd (⊎_elim (λ (q : c ≡ 0). omega arith) (λ (q : 20 ≤ c). omega arith) judged)
 
 -- ---- each row has its answer
-module _ (s : List ℕ) (n : ℕ) (after : List ℕ) (h : Headed s n after) where
-  pub headed_length : read_header s ≡ Header.Length n
-  unfolding read_header
-  headed_length = ap read_header h.is ∙ header_before h.header after 8 0 0 h.eight h.hex ∙ ap (λ (k : ℕ). Header.Length k) h.number
-
-  headed_size : length s ≡ 8 + length after
-  headed_size = ap length h.is ∙ length-append h.header after ∙ omega (arith, h.eight)
-
 module _ (profile : Profile) (s : List ℕ) where
+  module _ (n : ℕ) (after : List ℕ) (h : Headed s n after) where
+    headed_length : read_header s ≡ Header.Length n
+    unfolding read_header
+    headed_length = ap read_header h.is ∙ header_before h.header after 8 0 0 h.eight h.hex ∙ ap (λ (k : ℕ). Header.Length k) h.number
+
+    headed_size : length s ≡ 8 + length after
+    headed_size = ap length h.is ∙ length-append h.header after ∙ omega (arith, h.eight)
+
   -- the payload that a header counts
   headed_payload : (p after : List ℕ) → Headed s (length p) (p ++ after) → length p ≤ largest_payload → payload_reading profile p ≡ reading_by profile s
   headed_payload p after h small =
       let n = length p in
-      let size : length s ≡ 8 + (n + length after) = headed_size s n (p ++ after) h ∙ omega (arith, length-append p after) in
+      let size : length s ≡ 8 + (n + length after) = headed_size n (p ++ after) h ∙ omega (arith, length-append p after) in
       let m : (8 + n) - 8 ≡ n = omega arith in
       let rest : drop 8 s ≡ p ++ after = ap (drop 8) h.is ∙ drop_at h.header (p ++ after) 8 h.eight in
       let payload : slice s 8 (8 + n) ≡ p = ap (λ (k : ℕ). take k (drop 8 s)) m ∙ ap (take n) rest ∙ take-append_seam p after in
-      ap (payload_reading profile) (sym payload) ∙ length_there profile s n (omega arith) ∙ frame_sized profile s (read_header s) n (Sized.Length (record { 0 = n })) (headed_length s n (p ++ after) h) (sized_fits n small)
+      ap (payload_reading profile) (sym payload) ∙ length_there profile s n (omega arith) ∙ frame_sized profile s n (Sized.Length (record { 0 = n })) (headed_length n (p ++ after) h) (sized_fits n small)
 
   row_answered : (a : Answer) → AnswerRowBy profile s a → a ≡ read_frame_by profile s
   unfolding read_header
@@ -144,13 +144,13 @@ module _ (profile : Profile) (s : List ℕ) where
       let v = f.payload in
       let h : Headed s (length (encode v)) (encode v ++ f.rest) = record { header = f.header; is = f.is; eight = f.eight; hex = f.hex; number = f.number } in
       sym f.means ∙ sym (payload_means profile v f.formed) ∙ ap answer_of (headed_payload (encode v) f.rest h f.small)
-  row_answered a (short_header p few) = ap answer_of (frame_short profile s (read_header s) (header_short s 8 0 0 few p))
+  row_answered a (short_header p few) = ap answer_of (frame_short profile s (header_short s 8 0 0 few p))
   row_answered a (short_payload n after h small few) =
-      let size = headed_size s n after h in
-      ap answer_of (length_short profile s n (omega arith) ∙ frame_sized profile s (read_header s) n (Sized.Length (record { 0 = n })) (headed_length s n after h) (sized_fits n small))
-  row_answered a (no_digit before after c is p few g) = ap answer_of (frame_no_digit profile s (read_header s) (length before) (ap read_header is ∙ header_no_digit before after c 8 0 0 few p g ∙ ap (λ (n : ℕ). Header.NoDigit n) (omega arith)))
-  row_answered a (over_protocol n after h large) = ap answer_of (frame_sized profile s (read_header s) n Sized.OverProtocol (headed_length s n after h) (sized_over_protocol n large))
-  row_answered a (over_limit n after h large small) = ap answer_of (frame_sized profile s (read_header s) n Sized.OverLimit (headed_length s n after h) (sized_over_limit n large small))
+      let size = headed_size n after h in
+      ap answer_of (length_short profile s n (omega arith) ∙ frame_sized profile s n (Sized.Length (record { 0 = n })) (headed_length n after h) (sized_fits n small))
+  row_answered a (no_digit before after c is p few g) = ap answer_of (frame_no_digit profile s (length before) (ap read_header is ∙ header_no_digit before after c 8 0 0 few p g ∙ ap (λ (n : ℕ). Header.NoDigit n) (omega arith)))
+  row_answered a (over_protocol n after h large) = ap answer_of (frame_sized profile s n Sized.OverProtocol (headed_length n after h) (sized_over_protocol n large))
+  row_answered a (over_limit n after h large small) = ap answer_of (frame_sized profile s n Sized.OverLimit (headed_length n after h) (sized_over_limit n large small))
   row_answered a (payload_fault p after f h small e) = ap answer_of (fault-payload profile p f e ∙ headed_payload p after h small)
 
   -- ---- all bytes have a row

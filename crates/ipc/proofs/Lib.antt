@@ -7,7 +7,6 @@ pub mod writing
 pub mod Accepts
 pub mod StrictIsLoose
 pub mod Tried
-pub mod PassesMarks
 pub mod WritesBack
 pub mod IdLists
 pub mod ReadsBack
@@ -16,6 +15,3 @@ pub mod AgreesOnLargest
 pub mod RefusalKeeps
 pub mod HeadersAnswered
 pub mod RefusalHasNoKind
-pub mod MarksByPlace
-pub mod StraysRefused
-pub mod NoMarks

@@ -3,11 +3,11 @@
 use Prim.Native.Nat.{ℕ, zero, suc, ◌+◌, ◌-◌, ◌^◌, ◌≤◌, ◌<◌}
 use mathlib.Core.Path.{◌≡◌, refl, sym, ap, subst, ◌∙◌}
 use mathlib.Core.Logic.{inl}
-use mathlib.Core.Bool.{Bool, true, false, cond, ◌&&◌}
+use mathlib.Core.Bool.{Bool, true, false, cond}
 use mathlib.Core.List.{List, [], ◌∷◌, ◌++◌, append-nil, append_assoc}
 use native.Mathlib.Omega.{arith}
 use native.Mathlib.Decide.{dec_lt, ℕ_discrete}
-use borrow.Author.Tests.{leb-true, leb-false, le-leb}
+use borrow.Author.Tests.{leb-true, le-leb}
 use lib.Dec.{eqb, eqb→eq, leb}
 use lib.IntN.{ℤ, pos}
 use lib.ListN.{length, get_or, replicate, get_or-eq_default, take, drop}
@@ -33,8 +33,7 @@ use Rattle.ipc.specs.declared.versions.OptionalVersions.{OptionalVersions}
 use Rattle.ipc.specs.declared.writer.Given.{Given}
 use Rattle.ipc.specs.declared.writer.Written.{Written}
 use Rattle.ipc.specs.Answer.{Answer, part, accepted, accepted_handshake, content_of}
-use Rattle.ipc.specs.Marks.{cased_in, is_stray}
-use Rattle.ipc.specs.Reader.{read_frame_by, read_frame, read_marks_by, read_marks}
+use Rattle.ipc.specs.Reader.{read_frame_by, read_frame}
 use Rattle.ipc.specs.HandshakeWriter.{handshake_value, handshake_payload, range_written, handshake_written}
 use Rattle.ipc.specs.Header.{header_length, largest_payload}
 use Rattle.ipc.specs.Hex.{hex_header}
@@ -42,12 +41,10 @@ use Rattle.ipc.specs.Ids.{largest_tag, tag_of}
 use Rattle.ipc.specs.Keys.{key_text, Listed, listed, unlisted, number_from, key_number, class_of, is_written}
 use Rattle.ipc.specs.Meaning.{whole_at, judged, versions_answer, meaning}
 use Rattle.ipc.specs.Versions.{range_of, IsRange}
-use Rattle.ipc.specs.Writer.{nothing_fits, integer_fits, bytes_fit, value_fits, encode_given, encode_tag, payload_of, frame_of, fitted, message_fault, marked_frame, marked_fitted, marked_answer}
-use Rattle.ipc.specs.Demands.{hex_from, FramedBy, Headed, IdList, GivenFits, MarksFit, Named, ReadsBackBy, ReadsBack, BufferReadsBack, HandshakeReadsBack, HandshakeNotStrict}
+use Rattle.ipc.specs.Writer.{nothing_fits, integer_fits, bytes_fit, value_fits, encode_given, encode_tag, payload_of, frame_of, fitted, write_answer, message_fault}
+use Rattle.ipc.specs.Demands.{hex_from, FramedBy, IdList, GivenFits, Named, ReadsBackBy, ReadsBack, BufferReadsBack, HandshakeReadsBack, HandshakeNotStrict}
 use Rattle.ipc.proofs.Accepts.{answers_meaning_by, accepts_exactly_by}
-use Rattle.ipc.proofs.PassesMarks.{accepted_marks}
 use Rattle.ipc.proofs.headers.HexLaws.{header_length_lem, header_digits, from_header}
-use Rattle.ipc.proofs.headers.MarkLaws.{marked_length, marked_marks, marked_digits, marked_number}
 use Rattle.ipc.proofs.IdLists.{id_list_formed, id_list_exactly}
 use Rattle.ipc.proofs.meaning.Inverts.{spelling, untagged_text, tagged_text}
 use Rattle.ipc.proofs.StrictIsLoose.{strict_is_loose}
@@ -70,34 +67,20 @@ fitted_counted p room n e = go (leb (length p) largest_payload) refl (leb (lengt
     go true q false e = let z : ◌≡◌ {A = ℕ} 0 1 = cc in absurd (omega arith)
     go false q u e = let z : ◌≡◌ {A = ℕ} 0 1 = cc in absurd (omega arith)
 
--- with marks: none of them is on a place that holds no letter
-marked_counted : (m : ℕ) (p : List ℕ) (room n : ℕ) → marked_fitted m p room ≡ Written.Count n → Counted p n × (is_stray m (hex_header (length p)) ≡ false)
-unfolding marked_fitted
-marked_counted m p room n e = go (leb (length p) largest_payload) refl (is_stray m (hex_header (length p))) refl e
-  where
-    go : (t : Bool) → leb (length p) largest_payload ≡ t → (u : Bool) → is_stray m (hex_header (length p)) ≡ u → cond (t && u) (Written.Refused 45) (fitted p room) ≡ Written.Count n
-        → Counted p n × (is_stray m (hex_header (length p)) ≡ false)
-    go true q true r e = let z : ◌≡◌ {A = ℕ} 0 1 = cc in absurd (omega arith)
-    go true q false r e = (fitted_counted p room n e, r)
-    go false q u r e = let c = fitted_counted p room n e in absurd (omega (arith, leb-false (length p) largest_payload q, c.small))
-
 -- a message that is written passes each test
-record Passed (key : ℕ) (given : Given) (s : List ℕ) (tag marks n : ℕ) : Type 0 where
+record Passed (key : ℕ) (given : Given) (s : List ℕ) (tag n : ℕ) : Type 0 where
   written : is_written key ≡ true
   fits : value_fits (class_of key) given s ≡ true
   tagged : tag ≤ largest_tag
   counted : Counted (payload_of key given s tag) n
-  kept : is_stray marks (hex_header (length (payload_of key given s tag))) ≡ false
 
-passed : (key : ℕ) (given : Given) (s : List ℕ) (tag marks room n : ℕ) → marked_answer key given s tag marks room ≡ Written.Count n → Passed key given s tag marks n
-unfolding marked_answer message_fault
-passed key given s tag marks room n e = go (is_written key) refl (value_fits (class_of key) given s) refl (leb tag largest_tag) refl e
+passed : (key : ℕ) (given : Given) (s : List ℕ) (tag room n : ℕ) → write_answer key given s tag room ≡ Written.Count n → Passed key given s tag n
+unfolding write_answer message_fault
+passed key given s tag room n e = go (is_written key) refl (value_fits (class_of key) given s) refl (leb tag largest_tag) refl e
   where
     go : (t : Bool) → is_written key ≡ t → (u : Bool) → value_fits (class_of key) given s ≡ u → (v : Bool) → leb tag largest_tag ≡ v
-        → cond (eqb (cond t (cond u (cond v 0 42) 41) 40) 0) (marked_fitted marks (payload_of key given s tag) room) (Written.Refused (cond t (cond u (cond v 0 42) 41) 40)) ≡ Written.Count n → Passed key given s tag marks n
-    go true p true q true r e =
-        let f = marked_counted marks (payload_of key given s tag) room n e in
-        record { written = p; fits = q; tagged = leb-true tag largest_tag r; counted = f.0; kept = f.1 }
+        → cond (eqb (cond t (cond u (cond v 0 42) 41) 40) 0) (fitted (payload_of key given s tag) room) (Written.Refused (cond t (cond u (cond v 0 42) 41) 40)) ≡ Written.Count n → Passed key given s tag n
+    go true p true q true r e = record { written = p; fits = q; tagged = leb-true tag largest_tag r; counted = fitted_counted (payload_of key given s tag) room n e }
     go true p true q false r e = let z : ◌≡◌ {A = ℕ} 0 1 = cc in absurd (omega arith)
     go true p false q v r e = let z : ◌≡◌ {A = ℕ} 0 1 = cc in absurd (omega arith)
     go false p u q v r e = let z : ◌≡◌ {A = ℕ} 0 1 = cc in absurd (omega arith)
@@ -259,65 +242,47 @@ message_meant used key x zero held h e = rw e refl
 message_meant used key x (suc t) held h e = rw (tag_again (suc t) (omega arith) h, e) refl
 
 -- ---- frames
--- the header of a frame that is written, with marks and with none
-module _ (p rest : List ℕ) (small : length p ≤ largest_payload) where
-  length_again : hex_from 0 (hex_header (length p)) ≡ length p
-  length_again = from_header (length p) (omega arith)
-
-  marked_headed : (m : ℕ) → is_stray m (hex_header (length p)) ≡ false → Headed (marked_frame m p ++ rest) (length p) (p ++ rest)
-  unfolding marked_frame
-  marked_headed m kept =
-      record {
-        header = cased_in m (hex_header (length p));
-        is = append_assoc (cased_in m (hex_header (length p))) p rest;
-        eight = marked_length (length p) m;
-        hex = marked_digits (length p) m kept;
-        number = marked_number (length p) m kept ∙ length_again;
-      }
-
-  pub upper_headed : Headed (frame_of p ++ rest) (length p) (p ++ rest)
-  unfolding frame_of
-  upper_headed =
-      record {
-        header = hex_header (length p);
-        is = append_assoc (hex_header (length p)) p rest;
-        eight = header_length_lem (length p);
-        hex = header_digits (length p);
-        number = length_again;
-      }
-
 -- the frame of a well-formed value reads as what it means
-frame_reads : (profile : Profile) (s : List ℕ) (v : Value) (a : Answer) (rest : List ℕ) → Headed s (length (encode v)) (encode v ++ rest) → WellFormed profile largest_depth v → length (encode v) ≤ largest_payload
-    → meaning (header_length + length (encode v)) v ≡ a → read_frame_by profile s ≡ a
-frame_reads profile s v a rest h g small e =
-    answers_meaning_by profile s a (record { header = h.header; payload = v; rest = rest; is = h.is; eight = h.eight; hex = h.hex; number = h.number; small = small; formed = g; means = e })
+frame_reads : (profile : Profile) (v : Value) (a : Answer) (rest : List ℕ) → WellFormed profile largest_depth v → length (encode v) ≤ largest_payload → meaning (header_length + length (encode v)) v ≡ a → read_frame_by profile (frame_of (encode v) ++ rest) ≡ a
+unfolding frame_of
+frame_reads profile v a rest g small e =
+    answers_meaning_by profile (frame_of (encode v) ++ rest) a (record {
+      header = hex_header (length (encode v));
+      payload = v;
+      rest = rest;
+      is = append_assoc (hex_header (length (encode v))) (encode v) rest;
+      eight = header_length_lem (length (encode v));
+      hex = header_digits (length (encode v));
+      number = from_header (length (encode v)) (omega arith);
+      small = small;
+      formed = g;
+      means = e;
+    })
 
 -- a frame of the grammar at the front of bytes has the payload that was framed
-pub front_payload : (profile : Profile) (s p rest : List ℕ) (a : Answer) → Headed s (length p) (p ++ rest) → (f : FramedBy profile s a) → encode f.payload ≡ p
-front_payload profile s p rest a h f =
+pub front_payload : (profile : Profile) (p rest : List ℕ) (a : Answer) → length p ≤ largest_payload → (f : FramedBy profile (frame_of p ++ rest) a) → encode f.payload ≡ p
+unfolding frame_of
+front_payload profile p rest a small f =
     let q = encode f.payload in
-    let split : f.header ++ (encode f.payload ++ f.rest) ≡ h.header ++ (p ++ rest) = sym f.is ∙ h.is in
-    let front : f.header ≡ h.header = sym (take_at f.header (q ++ f.rest) 8 f.eight) ∙ ap (take 8) split ∙ take_at h.header (p ++ rest) 8 h.eight in
-    let size : length (encode f.payload) ≡ length p = sym f.number ∙ ap (hex_from 0) front ∙ h.number in
-    let after : encode f.payload ++ f.rest ≡ p ++ rest = sym (drop_at f.header (q ++ f.rest) 8 f.eight) ∙ ap (drop 8) split ∙ drop_at h.header (p ++ rest) 8 h.eight in
+    let header = hex_header (length p) in
+    let split : f.header ++ (encode f.payload ++ f.rest) ≡ hex_header (length p) ++ (p ++ rest) = sym f.is ∙ append_assoc header p rest in
+    let front : f.header ≡ hex_header (length p) = sym (take_at f.header (q ++ f.rest) 8 f.eight) ∙ ap (take 8) split ∙ take_at header (p ++ rest) 8 (header_length_lem (length p)) in
+    let size : length (encode f.payload) ≡ length p = sym f.number ∙ ap (hex_from 0) front ∙ from_header (length p) (omega arith) in
+    let after : encode f.payload ++ f.rest ≡ p ++ rest = sym (drop_at f.header (q ++ f.rest) 8 f.eight) ∙ ap (drop 8) split ∙ drop_at header (p ++ rest) 8 (header_length_lem (length p)) in
     sym (take_at q f.rest (length p) size) ∙ ap (take (length p)) after ∙ take_at p rest (length p) refl
 
 -- where a message's value stands in the frame of a payload
-frame_stands : (m : ℕ) (p : List ℕ) (key : List ℕ) (x : Value) (tag : ℕ) → p ≡ spelling key x tag → Stands (marked_frame m p) (1 + length (encode_string key)) x
-unfolding marked_frame
-frame_stands m p key x tag e =
-    let header = cased_in m (hex_header (length p)) in
-    stands_in (marked_frame m p) header p (encode_string key) (encode x) (encode_tag tag ++ (letter_e ∷ [])) [] (marked_length (length p) m) (ap (λ (l : List ℕ). header ++ l) (sym (append-nil p))) e
+frame_stands : (p : List ℕ) (key : List ℕ) (x : Value) (tag : ℕ) → p ≡ spelling key x tag → Stands (frame_of p) (1 + length (encode_string key)) x
+unfolding frame_of
+frame_stands p key x tag e =
+    stands_in (frame_of p) (hex_header (length p)) p (encode_string key) (encode x) (encode_tag tag ++ (letter_e ∷ [])) [] (header_length_lem (length p)) (ap (λ (l : List ℕ). hex_header (length p) ++ l) (sym (append-nil p))) e
 
 -- ---- the statements
-module _ (profile : Profile) (key tag marks n : ℕ) (given : Given) (s rest : List ℕ) (w : Passed key given s tag marks n) (d : Handed profile (class_of key) given s (1 + length (encode_string (key_text key)))) where
-  abbrev payload : List ℕ
-  payload = payload_of key given s tag
-
-  spelt : payload ≡ spelling (key_text key) d.value tag
+module _ (profile : Profile) (key tag n : ℕ) (given : Given) (s rest : List ℕ) (w : Passed key given s tag n) (d : Handed profile (class_of key) given s (1 + length (encode_string (key_text key)))) where
+  spelt : payload_of key given s tag ≡ spelling (key_text key) d.value tag
   spelt = payload_again key given s tag (key_text key) d.value refl d.same
 
-  payload_value : payload ≡ encode (message_value (key_text key) d.value tag)
+  payload_value : payload_of key given s tag ≡ encode (message_value (key_text key) d.value tag)
   payload_value = spelt ∙ sym (message_text (key_text key) d.value tag w.tagged)
 
   -- the answer that the frame's value means
@@ -328,43 +293,31 @@ module _ (profile : Profile) (key tag marks n : ℕ) (given : Given) (s rest : L
       ap (λ (i : ℕ). judged (class_of i) (1 + length (encode_string (key_text key))) d.value) k ∙ d.judges in
       message_meant n (key_text key) d.value tag d.held w.tagged j ∙ ap (λ (i : ℕ). accepted n i tag (content_of d.held)) k
 
-  headed : Headed (marked_frame marks payload ++ rest) (length payload) (payload ++ rest)
-  headed = marked_headed payload rest w.counted.small marks w.kept
-
-  message_reads : read_frame_by profile (marked_frame marks payload ++ rest) ≡ accepted n key tag (content_of d.held)
+  message_reads : read_frame_by profile (frame_of (payload_of key given s tag) ++ rest) ≡ accepted n key tag (content_of d.held)
   message_reads =
       let v = message_value (key_text key) d.value tag in
-      let f = marked_frame marks payload ++ rest in
-      let size : length payload ≡ length (encode v) = ap length payload_value in
+      let size : length (payload_of key given s tag) ≡ length (encode v) = ap length payload_value in
       let used : header_length + length (encode v) ≡ n = omega (arith, w.counted.count) in
-      let h : Headed (marked_frame marks payload ++ rest) (length (encode v)) (encode v ++ rest) = subst (λ (p : List ℕ). Headed f (length p) (p ++ rest)) payload_value headed in
-      frame_reads profile f v (accepted n key tag (content_of d.held)) rest h (message_formed profile (key_text key) d.value tag w.tagged d.formed) (omega (arith, w.counted.small)) (ap (λ (m : ℕ). meaning m v) used ∙ meant)
-
-  marks_read : MarksFit marks → read_marks_by profile (marked_frame marks payload ++ rest) ≡ marks
-  unfolding headed marked_headed
-  marks_read few =
-      accepted_marks profile (marked_frame marks payload ++ rest) (length payload) (payload ++ rest) headed (ap (λ (x : Answer). x.code) message_reads)
-      ∙ marked_marks (length payload) marks w.kept few
+      ap (λ (p : List ℕ). read_frame_by profile (frame_of p ++ rest)) payload_value
+      ∙ frame_reads profile v (accepted n key tag (content_of d.held)) rest (message_formed profile (key_text key) d.value tag w.tagged d.formed) (omega (arith, w.counted.small)) (ap (λ (m : ℕ). meaning m v) used ∙ meant)
 
 pub reads_back_by : ReadsBackBy
-reads_back_by profile key tag marks room n given s rest fits few e =
-    let w = passed key given s tag marks room n e in
+reads_back_by profile key tag room n given s rest fits e =
+    let w = passed key given s tag room n e in
     let d = handed profile s (1 + length (encode_string (key_text key))) (class_of key) given fits w.fits in (
       content_of d.held,
-      message_reads profile key tag marks n given s rest w d,
-      marks_read profile key tag marks n given s rest w d few,
-      d.names (marked_frame marks (payload_of key given s tag)) (frame_stands marks (payload_of key given s tag) (key_text key) d.value tag (spelt profile key tag marks n given s rest w d)),
+      message_reads profile key tag n given s rest w d,
+      d.names (frame_of (payload_of key given s tag)) (frame_stands (payload_of key given s tag) (key_text key) d.value tag (spelt profile key tag n given s rest w d)),
     )
 
 pub reads_back : ReadsBack
-unfolding read_frame read_marks
+unfolding read_frame
 reads_back = reads_back_by Profile.Loose
 
 pub buffer_reads_back : BufferReadsBack
-buffer_reads_back key tag marks n given s before after fits few o =
-    let frame = marked_frame marks (payload_of key given s tag) in
-    let r = reads_back key tag marks (length before) n given s (drop (length frame) before) fits few (sym o.answered) in
-    (r.0, ap read_frame o.buffer ∙ r.1, ap read_marks o.buffer ∙ r.2, r.3)
+buffer_reads_back key tag n given s before after fits o =
+    let r = reads_back key tag (length before) n given s (drop (length (frame_of (payload_of key given s tag))) before) fits (sym o.answered) in
+    (r.0, ap read_frame o.buffer ∙ r.1, r.2)
 
 -- ---- handshakes
 -- a handshake that is written has a range
@@ -396,7 +349,7 @@ unfolding handshake_payload read_frame
 handshake_reads_back low high room n rest e =
     let w = ranged low high room n e in
     let v = handshake_value low high in
-    frame_reads Profile.Loose (frame_of (encode v) ++ rest) v (accepted_handshake n low high) rest (upper_headed (encode v) rest w.counted.small) (handshake_formed low high w.range) w.counted.small
+    frame_reads Profile.Loose v (accepted_handshake n low high) rest (handshake_formed low high w.range) w.counted.small
     (ap (λ (m : ℕ). meaning m v) w.counted.count ∙ handshake_meant n low high w.range)
 
 -- its keys do not rise
@@ -417,5 +370,5 @@ handshake_not_strict low high room n rest e = go (ℕ_discrete (read_frame_by Pr
         let s = frame_of (encode v) ++ rest in
         let a = accepted_handshake n low high in
         let f = (accepts_exactly_by Profile.Strict s a (inl refl)).0 (strict_is_loose s other ∙ handshake_reads_back low high room n rest e) in
-        let payload : f.payload ≡ v = one_value f.payload v (front_payload Profile.Strict s (encode v) rest a (upper_headed (encode v) rest (ranged low high room n e).counted.small) f) in
+        let payload : f.payload ≡ v = one_value f.payload v (front_payload Profile.Strict (encode v) rest a (ranged low high room n e).counted.small f) in
         absurd (handshake_unsorted low high (subst (λ (x : Value). WellFormed Profile.Strict largest_depth x) payload f.formed))

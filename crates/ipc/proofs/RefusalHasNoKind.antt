@@ -5,4 +5,4 @@ use borrow.Author.Tests.{ne_eqb}
 use Rattle.ipc.specs.Numbers.{RefusalHasNoKind}
 
 pub refusal_has_no_kind : RefusalHasNoKind
-refusal_has_no_kind a marks h = rw (ne_eqb a.code 0 h) refl
+refusal_has_no_kind a h = rw (ne_eqb a.code 0 h) refl

@@ -5,5 +5,5 @@ use Rattle.ipc.specs.declared.writer.Written.{Written}
 use Rattle.ipc.specs.Demands.{RefusalKeeps}
 
 pub refusal_keeps : RefusalKeeps
-refusal_keeps answer (Written.Count n) frame before after o h = absurd (h refl)
-refusal_keeps answer (Written.Refused c) frame before after o h = (refl, o.buffer)
+refusal_keeps answer (Written.Count n) payload before after o h = absurd (h refl)
+refusal_keeps answer (Written.Refused c) payload before after o h = (refl, o.buffer)

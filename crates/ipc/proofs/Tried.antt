@@ -1,5 +1,4 @@
--- The frames of the proved set are answered as the document has it, frames are written so, and marks are so: antt computes
--- them.
+-- The frames of the proved set are answered as the document has it, and frames are written so: antt computes them.
 -- Assumes nothing.
 use mathlib.Core.Path.{refl}
 use mathlib.Core.List.{flatten}
@@ -17,7 +16,7 @@ use Rattle.bencode.specs.Item.{item_at}
 use Rattle.bencode.specs.Walk.{list_from, dictionary_from, value_at, payload_at}
 use Rattle.octets.specs.Ascii.{ascii}
 use Rattle.bencode.specs.Field.{field_at, field_of}
-use Rattle.ipc.specs.Header.{hex_value, header_in, read_header, header_marks, sized}
+use Rattle.ipc.specs.Header.{hex_value, header_in, read_header, sized}
 use Rattle.ipc.specs.Ids.{tag_of, torrent_id_of}
 use Rattle.ipc.specs.Keys.{listed, number_from, key_number, key_text, class_of}
 use Rattle.bencode.specs.Entry.{entry_at}
@@ -25,12 +24,11 @@ use Rattle.ipc.specs.Format.{id_end, torrent_end, item_end, items_end, list_part
 use Rattle.ipc.specs.Message.{tail_at, message_reading}
 use Rattle.ipc.specs.Versions.{range_of}
 use Rattle.ipc.specs.Handshake.{range_at, dictionary_versions, handshake_reading}
-use Rattle.ipc.specs.Marks.{lower_mark, marks_of, cased, cased_in, is_stray}
-use Rattle.ipc.specs.Reader.{payload_reading, length_reading, read_frame, read_marks_by, read_marks}
+use Rattle.ipc.specs.Reader.{payload_reading, length_reading, read_frame}
 use Rattle.ipc.specs.HandshakeWriter.{handshake_payload}
 use Rattle.ipc.specs.Hex.{hex_digit, hex_in, hex_header}
-use Rattle.ipc.specs.Writer.{encode_given, encode_tag, payload_of, frame_of, marked_frame}
-use Rattle.ipc.specs.Tries.{tries, FramesTried, strict_tries, StrictTried, FramesWritten, mark_tries, MarksTried}
+use Rattle.ipc.specs.Writer.{encode_given, encode_tag, payload_of, frame_of}
+use Rattle.ipc.specs.Tries.{tries, FramesTried, strict_tries, StrictTried, FramesWritten}
 
 pub frames_tried : FramesTried
 unfolding tries skip_from item_at read_frame length_reading payload_reading ascii hex_value header_in read_header sized tag_of torrent_id_of listed number_from key_number class_of entry_at field_at field_of id_end torrent_end item_end items_end list_part formatted tail_at message_reading range_of range_at dictionary_versions handshake_reading payload_at value_at scalar_at integer_at integer_from numeral_at digits string_at list_from dictionary_from repeat key_fault text_from is_used is_above same less
@@ -43,7 +41,3 @@ strict_tried = refl
 pub frames_written : FramesWritten
 unfolding frame_of payload_of flatten encode_given encode_tag key_text class_of listed handshake_payload hex_header hex_in hex_digit ascii encode decimal decimal_before
 frames_written = (refl, refl, refl)
-
-pub marks_tried : MarksTried
-unfolding mark_tries read_marks read_marks_by header_marks marked_frame payload_of flatten encode_given encode_tag key_text hex_header hex_in hex_digit encode decimal decimal_before lower_mark marks_of cased cased_in is_stray skip_from item_at length_reading payload_reading ascii hex_value header_in read_header sized tag_of torrent_id_of listed number_from key_number class_of entry_at field_at field_of id_end torrent_end item_end items_end list_part formatted tail_at message_reading range_of range_at dictionary_versions handshake_reading payload_at value_at scalar_at integer_at integer_from numeral_at digits string_at list_from dictionary_from repeat key_fault text_from is_used is_above same less
-marks_tried = (refl, refl, refl, refl, refl, refl)

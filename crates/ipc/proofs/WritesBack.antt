@@ -1,4 +1,4 @@
--- An accepted frame of a key that is written is written again as the same bytes.
+-- An accepted frame of a key that is written is written again as the same bytes, but for the case of hex letters.
 -- Assumes nothing.
 use Prim.Native.Nat.{ℕ, zero, suc, ◌+◌, ◌-◌, ◌≤◌}
 use mathlib.Core.Logic.{inl}
@@ -17,7 +17,6 @@ use Rattle.bencode.specs.Value.{Value, integer, string, list, dictionary, Values
 use Rattle.octets.proofs.sequences.BeginsLaws.{slice_begins}
 use Rattle.bencode.proofs.Lookups.{reads_string}
 use Rattle.octets.proofs.sequences.Order.{clash}
-use Rattle.bencode.specs.declared.profile.Profile.{Profile}
 use Rattle.bencode.specs.Integers.{within}
 use Rattle.ipc.specs.declared.format.Checked.{Checked}
 use Rattle.ipc.specs.declared.keys.Class.{Class}
@@ -27,19 +26,15 @@ use Rattle.ipc.specs.declared.writer.Written.{Written}
 use Rattle.ipc.specs.Answer.{Answer, Content, accepted, content_of}
 use Rattle.ipc.specs.Format.{largest_port}
 use Rattle.ipc.specs.Header.{header_length, largest_payload}
-use Rattle.ipc.specs.Hex.{hex_header}
-use Rattle.ipc.specs.Marks.{marks_of, cased_in, is_stray}
+use Rattle.ipc.specs.Hex.{hex_header, upper, upper_header}
 use Rattle.ipc.specs.Ids.{largest_tag}
 use Rattle.ipc.specs.Keys.{key_text, Listed, listed, unlisted, key_number, class_of, is_written}
 use Rattle.ipc.specs.Meaning.{is_id_value, every, whole_at, as_integer, as_text, as_list, judged}
-use Rattle.ipc.specs.Reader.{read_marks}
-use Rattle.ipc.specs.Writer.{integer_fits, value_fits, encode_given, encode_tag, payload_of, message_fault, marked_frame, marked_answer}
+use Rattle.ipc.specs.Writer.{integer_fits, value_fits, encode_given, encode_tag, payload_of, frame_of, write_answer, message_fault}
 use Rattle.ipc.specs.Demands.{HexDigits, hex_from, Framed, given_of, bytes_of, WritesBack}
 use Rattle.ipc.proofs.Accepts.{accepts_exactly}
-use Rattle.ipc.proofs.PassesMarks.{passes_marks}
-use Rattle.ipc.proofs.headers.HexLaws.{plain, header_from}
-use Rattle.ipc.proofs.headers.MarkLaws.{cased_again, none_stray}
-use Rattle.ipc.proofs.writing.WriterLaws.{marked_count}
+use Rattle.ipc.proofs.headers.HexLaws.{header_from}
+use Rattle.ipc.proofs.writing.WriterLaws.{fitted_count}
 use Rattle.ipc.proofs.meaning.Inverts.{key_named, written_listed, spelling, Meant, inverts}
 use Rattle.ipc.proofs.IdLists.{id_list_exactly}
 
@@ -176,64 +171,50 @@ pub payload_again : (k : ℕ) (given : Given) (s : List ℕ) (tag : ℕ) (key : 
 unfolding payload_of flatten
 payload_again k given s tag key x p q = rw (p, q) refl
 
-pub written_count : (k : ℕ) (given : Given) (s : List ℕ) (tag m room : ℕ) (p : List ℕ) → is_written k ≡ true → value_fits (class_of k) given s ≡ true → tag ≤ largest_tag → payload_of k given s tag ≡ p
-    → length p ≤ largest_payload → is_stray m (hex_header (length p)) ≡ false → header_length + length p ≤ room → marked_answer k given s tag m room ≡ Written.Count (header_length + length p)
-unfolding marked_answer message_fault
-written_count k given s tag m room p w v t e small kept fits = rw (w, v, le-leb tag largest_tag t, e) (marked_count m p room small kept fits)
+written_count : (k : ℕ) (given : Given) (s : List ℕ) (tag room : ℕ) (p : List ℕ) → is_written k ≡ true → value_fits (class_of k) given s ≡ true → tag ≤ largest_tag → payload_of k given s tag ≡ p
+    → length p ≤ largest_payload → header_length + length p ≤ room → write_answer k given s tag room ≡ Written.Count (header_length + length p)
+unfolding write_answer message_fault
+written_count k given s tag room p w v t e small fits = rw (w, v, le-leb tag largest_tag t, e) (fitted_count p room small fits)
 
--- the digits of a header are written for its number again, as its marks ask for them, and none of the marks is on another place
-module _ (header : List ℕ) (n : ℕ) (eight : length header ≡ header_length) (hex : HexDigits header) (number : hex_from 0 header ≡ n) where
-  digits_are : hex_header n ≡ map plain header
-  digits_are = ap hex_header (sym number) ∙ header_from header eight hex
-
-  header_again : cased_in (marks_of header) (hex_header n) ≡ header
-  header_again = ap (cased_in (marks_of header)) digits_are ∙ cased_again header hex
-
-  pub header_kept : is_stray (marks_of header) (hex_header n) ≡ false
-  header_kept = ap (is_stray (marks_of header)) digits_are ∙ none_stray header hex
-
--- the frame of a payload, with the marks of the header that was read, is the frame that was read
+-- the frame of a payload is the one that was read, with the header's letters in upper case
 frame_again : (f header p rest : List ℕ) → f ≡ header ++ (p ++ rest) → length header ≡ header_length → HexDigits header → hex_from 0 header ≡ length p
-    → marked_frame (marks_of header) p ≡ take (header_length + length p) f
-unfolding marked_frame
+    → frame_of p ≡ upper_header (take (header_length + length p) f)
+unfolding frame_of
 frame_again f header p rest is eight hex number =
     let split : f ≡ (header ++ p) ++ rest = is ∙ sym (append_assoc header p rest) in
     let size : length (header ++ p) ≡ header_length + length p = omega (arith, length-append header p) in
-    ap (λ (h : List ℕ). h ++ p) (header_again header (length p) eight hex number) ∙ sym (take_at (header ++ p) rest (header_length + length p) size) ∙ ap (take (header_length + length p)) (sym split)
+    let front : take (header_length + length p) f ≡ header ++ p = ap (take (header_length + length p)) split ∙ take_at (header ++ p) rest (header_length + length p) size in
+    let digits : hex_header (length p) ≡ map upper header = ap hex_header (sym number) ∙ header_from header eight hex in
+    let whole : upper_header (header ++ p) ≡ map upper header ++ p = rw (take_at header p header_length eight, drop_at header p header_length eight) refl in
+    rw digits (sym whole ∙ ap upper_header (sym front))
 
 -- ---- the statement
--- a frame is written again, for its answer and marks
-abbrev Back : List ℕ → ℕ → ℕ → Answer → Type 0
-Back f m room a = (marked_answer a.key (given_of a.value) (bytes_of f a.value) a.tag m room ≡ Written.Count a.consumed)
-    × (marked_frame m (payload_of a.key (given_of a.value) (bytes_of f a.value) a.tag) ≡ take a.consumed f)
+-- a frame is written again, for its answer
+abbrev Back : List ℕ → ℕ → Answer → Type 0
+Back f room a = (write_answer a.key (given_of a.value) (bytes_of f a.value) a.tag room ≡ Written.Count a.consumed)
+    × (frame_of (payload_of a.key (given_of a.value) (bytes_of f a.value) a.tag) ≡ upper_header (take a.consumed f))
 
 module _ (f : List ℕ) (a : Answer) (room : ℕ) (framed : Framed f a) (m : Meant framed.payload (header_length + length (encode framed.payload)) a) where
-  abbrev marks : ℕ
-  marks = marks_of framed.header
-
   meant_back : is_written (key_number m.key) ≡ true → (class_of (key_number m.key) ≡ Class.Ignored → ⊥) → header_length + length (encode framed.payload) ≤ room
-      → Back f marks room (accepted (header_length + length (encode framed.payload)) (key_number m.key) m.tag (content_of m.held))
+      → Back f room (accepted (header_length + length (encode framed.payload)) (key_number m.key) m.tag (content_of m.held))
   meant_back w i fits =
       let k = key_number m.key in
       let c = content_of m.held in
       let p = encode framed.payload in
       let stands = stands_in f framed.header p (encode_string m.key) (encode m.content) (encode_tag m.tag ++ (letter_e ∷ [])) framed.rest framed.eight framed.is m.spelt in
       let v = value_again f (1 + length (encode_string m.key)) m.content m.held (class_of k) (written_allowed k w) i stands m.fits in
-      let payload : payload_of k (given_of c) (bytes_of f c) m.tag ≡ p = payload_again k (given_of c) (bytes_of f c) m.tag m.key m.content (sym (key_named m.key (written_listed k w))) v.same ∙ sym m.spelt in
-      let kept = header_kept framed.header (length p) framed.eight framed.hex framed.number in (
-        written_count k (given_of c) (bytes_of f c) m.tag marks room p w v.fits m.small payload framed.small kept fits,
-        ap (marked_frame marks) payload ∙ frame_again f framed.header p framed.rest framed.is framed.eight framed.hex framed.number,
+      let payload : payload_of k (given_of c) (bytes_of f c) m.tag ≡ p = payload_again k (given_of c) (bytes_of f c) m.tag m.key m.content (sym (key_named m.key (written_listed k w))) v.same ∙ sym m.spelt in (
+        written_count k (given_of c) (bytes_of f c) m.tag room p w v.fits m.small payload framed.small fits,
+        ap frame_of payload ∙ frame_again f framed.header p framed.rest framed.is framed.eight framed.hex framed.number,
       )
 
-  framed_back : is_written a.key ≡ true → (class_of a.key ≡ Class.Ignored → ⊥) → a.consumed ≤ room → Back f marks room a
+  framed_back : is_written a.key ≡ true → (class_of a.key ≡ Class.Ignored → ⊥) → a.consumed ≤ room → Back f room a
   framed_back w i fits =
       let key : a.key ≡ key_number m.key = ap (λ (x : Answer). x.key) (sym m.is) in
       let used : a.consumed ≡ header_length + length (encode framed.payload) = ap (λ (x : Answer). x.consumed) (sym m.is) in
-      subst (λ (x : Answer). Back f marks room x) m.is (meant_back (rw key at w) (λ e. i (ap class_of key ∙ e)) (rw used at fits))
+      subst (λ (x : Answer). Back f room x) m.is (meant_back (rw key at w) (λ e. i (ap class_of key ∙ e)) (rw used at fits))
 
 pub writes_back : WritesBack
-unfolding read_marks
 writes_back f a room e code kind w i fits =
     let framed = (accepts_exactly f a (inl code)).0 e in
-    let back = framed_back f a room framed (inverts (header_length + length (encode framed.payload)) a code kind framed.payload framed.means) w i fits in
-    subst (λ (m : ℕ). Back f m room a) (sym ((passes_marks Profile.Loose f).accepted a framed code)) back
+    framed_back f a room framed (inverts (header_length + length (encode framed.payload)) a code kind framed.payload framed.means) w i fits

@@ -1,7 +1,7 @@
 -- Statements of frames as a whole. Each is a type; its proof stands in proofs/ under the same name in lower case. A name with
 -- For is the statement over any build, so that a wrong one can be refuted by it (Worthless).
 -- Assumes nothing.
-use Rattle.std.specs.Prelude.{ℕ, ◌+◌, ◌*◌, ◌^◌, ◌≤◌, ◌<◌, ◌≡◌, ◌↔◌, ◌⊎◌, true, List, [], ◌∷◌, ◌++◌, length, take}
+use Rattle.std.specs.Prelude.{ℕ, ◌+◌, ◌*◌, ◌≤◌, ◌<◌, ◌≡◌, ◌↔◌, ◌⊎◌, true, List, [], ◌∷◌, ◌++◌, length, take}
 use Rattle.bencode.specs.declared.fault.Fault.{Fault}
 use Rattle.bencode.specs.declared.fault.Walk.{Walk}
 use Rattle.bencode.specs.declared.profile.Profile.{Profile}
@@ -15,13 +15,12 @@ use Rattle.ipc.specs.declared.writer.Given.{Given}
 use Rattle.ipc.specs.declared.writer.Written.{Written}
 use Rattle.ipc.specs.Answer.{Answer, Content, nothing, integer, text, part, versions, message, refused, accepted, accepted_handshake}
 use Rattle.ipc.specs.declared.header.Header.{Header}
-use Rattle.ipc.specs.Marks.{marks_of, Stray}
 use Rattle.ipc.specs.Header.{header_length, largest_payload, protocol_payload, hex_value, read_header, header_code, header_offset, length_code}
-use Rattle.ipc.specs.Reader.{read_frame_by, read_frame, read_marks_by, read_marks}
-use Rattle.ipc.specs.Hex.{hex_header}
+use Rattle.ipc.specs.Reader.{read_frame_by, read_frame}
+use Rattle.ipc.specs.Hex.{upper_header}
 use Rattle.ipc.specs.Keys.{class_of, is_written}
 use Rattle.ipc.specs.Meaning.{is_id_value, every, meaning}
-use Rattle.ipc.specs.Writer.{written_code, written_count, is_id_list, payload_of, frame_of, fitted, message_fault, write_answer, marked_frame, marked_fitted, marked_answer, Leaves}
+use Rattle.ipc.specs.Writer.{written_code, written_count, is_id_list, payload_of, frame_of, write_answer, Leaves}
 use Rattle.ipc.specs.HandshakeWriter.{handshake_payload, handshake_written}
 
 -- bytes that are hex digits of either case
@@ -134,14 +133,6 @@ pub record HeaderAnswered (s : List ℕ) : Type 0 where
 abbrev pub HeadersAnswered : Type 0
 HeadersAnswered = ((s : List ℕ) → HeaderAnswered s) × ((n : ℕ) → (length_code n ≡ 0) ↔ (n ≤ largest_payload))
 
--- request 02: the reader passes on the marks of a frame's header where the frame is accepted, and none with a refusal
-pub record MarksPassed (profile : Profile) (s : List ℕ) : Type 0 where
-  pub accepted : (a : Answer) (f : FramedBy profile s a) → a.code ≡ 0 → read_marks_by profile s ≡ marks_of f.header
-  pub refused : ((read_frame_by profile s).code ≡ 0 → ⊥) → read_marks_by profile s ≡ 0
-
-abbrev pub PassesMarks : Type 0
-PassesMarks = (profile : Profile) (s : List ℕ) → MarksPassed profile s
-
 -- ---- writing
 -- bytes that are the encoding of a list of torrent IDs
 pub record IdList (s : List ℕ) : Type 0 where
@@ -177,55 +168,37 @@ Named class frame Given.Nothing s c = c ≡ nothing
 Named class frame (Given.Integer z) s c = c ≡ integer z
 Named class frame Given.Bytes s c = (at : ℕ) × (c ≡ bytes_named class at (length s)) × (slice frame at (at + length s) ≡ s)
 
--- eight marks are a number of eight bits
-abbrev pub MarksFit : ℕ → Type 0
-MarksFit marks = marks < 2 ^ header_length
-
 -- demand 1: a refusal has count 0 and leaves the lent buffer as it was
 abbrev pub RefusalKeeps : Type 0
-RefusalKeeps = (answer r : Written) (frame before after : List ℕ) → Leaves answer frame before r after → (written_code r ≡ 0 → ⊥) → (written_count r ≡ 0) × (after ≡ before)
+RefusalKeeps = (answer r : Written) (payload before after : List ℕ) → Leaves answer payload before r after → (written_code r ≡ 0 → ⊥) → (written_count r ≡ 0) × (after ≡ before)
 
--- request 02: 45 is given where a mark stands on a place that holds no letter, after 40 to 43 and before 44, and never otherwise
-abbrev pub StraysRefused : Type 0
-StraysRefused = (key tag marks room : ℕ) (given : Given) (s : List ℕ) → (marked_answer key given s tag marks room ≡ Written.Refused 45)
-    ↔ ((message_fault key given s tag ≡ 0) × (length (payload_of key given s tag) ≤ largest_payload) × Stray marks (hex_header (length (payload_of key given s tag))))
-
--- with no marks the writer writes upper case, as the desk and the handshake do, and answers by document 01 alone
-pub record NoMarks : Type 0 where
-  pub upper : (n : ℕ) → marks_of (hex_header n) ≡ 0
-  pub frame : (payload : List ℕ) → marked_frame 0 payload ≡ frame_of payload
-  pub fits : (payload : List ℕ) (room : ℕ) → marked_fitted 0 payload room ≡ fitted payload room
-  pub answer : (key tag room : ℕ) (given : Given) (s : List ℕ) → marked_answer key given s tag 0 room ≡ write_answer key given s tag room
-
--- a writer: what it answers to a key, a value, the bytes beside it, a tag and marks, in a room, and the frame that it leaves
+-- a writer: what it answers to a key, a value, the bytes beside it and a tag, in a room, and the frame that it leaves
 pub record Writer : Type 0 where
-  pub answer : ℕ → Given → List ℕ → ℕ → ℕ → ℕ → Written
-  pub frame : ℕ → Given → List ℕ → ℕ → ℕ → List ℕ
+  pub answer : ℕ → Given → List ℕ → ℕ → ℕ → Written
+  pub frame : ℕ → Given → List ℕ → ℕ → List ℕ
 
 -- ours
 abbrev pub writer : Writer
-writer = record { answer = marked_answer; frame = λ key given s tag marks. marked_frame marks (payload_of key given s tag) }
+writer = record { answer = write_answer; frame = λ key given s tag. frame_of (payload_of key given s tag) }
 
--- demand 2: each frame written reads back as its record, its marks by what a reader passes on, whatever follows it
-abbrev pub ReadsBackFor : (List ℕ → ℕ) → Writer → Type 0
-ReadsBackFor passed w = (key tag marks room n : ℕ) (given : Given) (s rest : List ℕ) → GivenFits given → MarksFit marks → w.answer key given s tag marks room ≡ Written.Count n
-    → (c : Content) × (read_frame (w.frame key given s tag marks ++ rest) ≡ accepted n key tag c) × (passed (w.frame key given s tag marks ++ rest) ≡ marks)
-    × Named (class_of key) (w.frame key given s tag marks) given s c
+-- demand 2: each frame written reads back as its record, whatever follows it
+abbrev pub ReadsBackFor : Writer → Type 0
+ReadsBackFor w = (key tag room n : ℕ) (given : Given) (s rest : List ℕ) → GivenFits given → w.answer key given s tag room ≡ Written.Count n
+    → (c : Content) × (read_frame (w.frame key given s tag ++ rest) ≡ accepted n key tag c) × Named (class_of key) (w.frame key given s tag) given s c
 
 abbrev pub ReadsBack : Type 0
-ReadsBack = ReadsBackFor read_marks writer
+ReadsBack = ReadsBackFor writer
 
 -- the same in every profile, of messages; of handshakes see `HandshakeNotStrict`
 abbrev pub ReadsBackBy : Type 0
-ReadsBackBy = (profile : Profile) (key tag marks room n : ℕ) (given : Given) (s rest : List ℕ) → GivenFits given → MarksFit marks → writer.answer key given s tag marks room ≡ Written.Count n
-    → (c : Content) × (read_frame_by profile (writer.frame key given s tag marks ++ rest) ≡ accepted n key tag c) × (read_marks_by profile (writer.frame key given s tag marks ++ rest) ≡ marks)
-    × Named (class_of key) (writer.frame key given s tag marks) given s c
+ReadsBackBy = (profile : Profile) (key tag room n : ℕ) (given : Given) (s rest : List ℕ) → GivenFits given → writer.answer key given s tag room ≡ Written.Count n
+    → (c : Content) × (read_frame_by profile (writer.frame key given s tag ++ rest) ≡ accepted n key tag c) × Named (class_of key) (writer.frame key given s tag) given s c
 
 -- the same of the buffer that was lent
 abbrev pub BufferReadsBack : Type 0
-BufferReadsBack = (key tag marks n : ℕ) (given : Given) (s before after : List ℕ) → GivenFits given → MarksFit marks
-    → Leaves (writer.answer key given s tag marks (length before)) (writer.frame key given s tag marks) before (Written.Count n) after
-    → (c : Content) × (read_frame after ≡ accepted n key tag c) × (read_marks after ≡ marks) × Named (class_of key) (writer.frame key given s tag marks) given s c
+BufferReadsBack = (key tag n : ℕ) (given : Given) (s before after : List ℕ) → GivenFits given
+    → Leaves (write_answer key given s tag (length before)) (payload_of key given s tag) before (Written.Count n) after
+    → (c : Content) × (read_frame after ≡ accepted n key tag c) × Named (class_of key) (frame_of (payload_of key given s tag)) given s c
 
 -- a writer of handshakes: what it answers to a range in a room, and the frame that it leaves
 pub record HandshakeWriter : Type 0 where
@@ -262,12 +235,12 @@ bytes_of f (text at n) = slice f at (at + n)
 bytes_of f (part at n) = slice f at (at + n)
 bytes_of f (versions low high) = []
 
--- demand 2: an accepted frame of a key that is written, unless its value is ignored, is written again, given room and the marks
--- that a reader passes on, as the same bytes
-abbrev pub WritesBackFor : (List ℕ → ℕ) → Writer → Type 0
-WritesBackFor passed w = (f : List ℕ) (a : Answer) (room : ℕ) → read_frame f ≡ a → a.code ≡ 0 → a.kind ≡ message → is_written a.key ≡ true → (class_of a.key ≡ Class.Ignored → ⊥) → a.consumed ≤ room
-    → (w.answer a.key (given_of a.value) (bytes_of f a.value) a.tag (passed f) room ≡ Written.Count a.consumed)
-    × (w.frame a.key (given_of a.value) (bytes_of f a.value) a.tag (passed f) ≡ take a.consumed f)
+-- demand 2: an accepted frame of a key that is written, unless its value is ignored, is written again, given room, as the
+-- same bytes but for the case of hex letters
+abbrev pub WritesBackFor : Writer → Type 0
+WritesBackFor w = (f : List ℕ) (a : Answer) (room : ℕ) → read_frame f ≡ a → a.code ≡ 0 → a.kind ≡ message → is_written a.key ≡ true → (class_of a.key ≡ Class.Ignored → ⊥) → a.consumed ≤ room
+    → (w.answer a.key (given_of a.value) (bytes_of f a.value) a.tag room ≡ Written.Count a.consumed)
+    × (w.frame a.key (given_of a.value) (bytes_of f a.value) a.tag ≡ upper_header (take a.consumed f))
 
 abbrev pub WritesBack : Type 0
-WritesBack = WritesBackFor read_marks writer
+WritesBack = WritesBackFor writer

@@ -1,11 +1,10 @@
--- Limits, hex digits, `size_code` and `marks_with` are to be believed, the last pinned for an accepted frame by `PassesMarks`;
--- reading is pinned by `AnswersByRow`, `header_code`, `header_offset` and `length_code` by `HeadersAnswered`. The header of a
--- frame: 8 hex digits of either case for the payload's length (document 01, 'The frame').
+-- Limits, hex digits and `size_code` are to be believed; reading is pinned by `AnswersByRow`, `header_code`, `header_offset` and
+-- `length_code` by `HeadersAnswered`. The header of a frame: 8 hex digits of either case for the payload's length (document 01,
+-- 'The frame').
 -- Assumes nothing.
-use Rattle.std.specs.Prelude.{true, false, cond, List, [], ◌∷◌, ℕ, zero, suc, ◌+◌, ◌*◌, ◌-◌, ltb, take}
+use Rattle.std.specs.Prelude.{true, false, cond, List, [], ◌∷◌, ℕ, zero, suc, ◌+◌, ◌*◌, ◌-◌, ltb}
 use Rattle.ipc.specs.declared.header.Header.{Header}
 use Rattle.ipc.specs.declared.header.Sized.{Sized}
-use Rattle.ipc.specs.Marks.{marks_of}
 
 -- how many bytes a header has
 abbrev pub header_length : ℕ
@@ -37,15 +36,6 @@ header_in (suc k) i v (c ∷ cs) = elim (ltb (hex_value c) 16) [ true ↦ header
 -- what reading a header at the front of bytes finds
 unfoldable pub read_header : List ℕ → Header
 read_header s = header_in header_length 0 0 s
-
--- the marks that come with it: those of its digits with a length, none with a fault (document 02, request 02)
-abbrev pub marks_with : Header → List ℕ → ℕ
-marks_with (Header.Length n) s = marks_of (take header_length s)
-marks_with (Header.NoDigit at) s = 0
-marks_with Header.Short s = 0
-
-unfoldable pub header_marks : List ℕ → ℕ
-header_marks s = marks_with (read_header s) s
 
 -- document 01's code and offset for what reading a header finds; 0 and 0 for a length
 abbrev pub header_code : Header → ℕ

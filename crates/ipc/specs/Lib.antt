@@ -1,4 +1,3 @@
-pub mod Marks
 pub mod Header
 pub mod Ids
 pub mod Keys

@@ -28,14 +28,13 @@ value_numbers (text at n) = placed 2 at n
 value_numbers (part at n) = placed 3 at n
 value_numbers (versions low high) = record { kind = 4; min = low; max = high; start = 0; length = 0; integer = pos 0 }
 
--- the answer and the marks beside it: its kind is 0 unless it is accepted, for code 22 too, which has the key and the tag
-abbrev pub numbers_of : Answer → ℕ → Numbers
-numbers_of a m =
+-- the answer: its kind is 0 unless it is accepted, for code 22 too, which has the key and the tag
+abbrev pub numbers_of : Answer → Numbers
+numbers_of a =
     record {
       code = a.code;
       kind = cond (eqb a.code 0) (kind_number a.kind) 0;
       key = a.key;
-      marks = m;
       tag = a.tag;
       offset = a.offset;
       consumed = a.consumed;
@@ -44,4 +43,4 @@ numbers_of a m =
 
 -- an answer that has a kind is accepted: a 22 is never taken for a message
 abbrev pub RefusalHasNoKind : Type 0
-RefusalHasNoKind = (a : Answer) (marks : ℕ) → (a.code ≡ 0 → ⊥) → (numbers_of a marks).kind ≡ 0
+RefusalHasNoKind = (a : Answer) → (a.code ≡ 0 → ⊥) → (numbers_of a).kind ≡ 0

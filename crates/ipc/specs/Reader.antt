@@ -1,5 +1,4 @@
--- Pinned by `AnswersByRowBy`, the marks by `PassesMarks`. The reader: what a frame at the front of bytes comes to, in document
--- 01's order of refusals.
+-- Pinned by `AnswersByRowBy`. The reader: what a frame at the front of bytes comes to, in document 01's order of refusals.
 -- Assumes nothing.
 use Rattle.std.specs.Prelude.{ℕ, ◌+◌, cond, List, eqb, leb, length}
 use Rattle.bencode.specs.declared.fault.Walk.{Walk}
@@ -11,7 +10,7 @@ use Rattle.ipc.specs.declared.header.Header.{Header}
 use Rattle.ipc.specs.declared.header.Sized.{Sized}
 use Rattle.ipc.specs.declared.reading.Reading.{Reading}
 use Rattle.ipc.specs.Answer.{Answer, answer_of}
-use Rattle.ipc.specs.Header.{header_length, read_header, header_marks, sized}
+use Rattle.ipc.specs.Header.{header_length, read_header, sized}
 use Rattle.ipc.specs.Message.{message_reading}
 use Rattle.ipc.specs.Handshake.{handshake_reading}
 
@@ -55,24 +54,3 @@ frame_reading s = reading_by Profile.Loose s
 
 unfoldable pub read_frame : List ℕ → Answer
 read_frame s = read_frame_by Profile.Loose s
-
--- the marks that the reader passes on: the header's with a frame that is accepted, none with a refusal (document 02, request 02)
-unfoldable pub read_marks_by : Profile → List ℕ → ℕ
-read_marks_by profile s = cond (eqb (read_frame_by profile s).code 0) (header_marks s) 0
-
-unfoldable pub read_marks : List ℕ → ℕ
-read_marks s = read_marks_by Profile.Loose s
-
--- ---- for the function that passes them on
--- marks with a reading that is accepted, none with another
-abbrev pub marks_for : Reading → ℕ → ℕ
-marks_for (Reading.Message m used) marks = marks
-marks_for (Reading.Handshake v used) marks = marks
-marks_for Reading.Incomplete marks = 0
-marks_for (Reading.NoDigit at) marks = 0
-marks_for Reading.OverProtocol marks = 0
-marks_for Reading.OverLimit marks = 0
-marks_for (Reading.Payload f) marks = 0
-marks_for Reading.NoMessage marks = 0
-marks_for Reading.NoHandshake marks = 0
-marks_for (Reading.OffFormat k t) marks = 0

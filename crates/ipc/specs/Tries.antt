@@ -1,16 +1,15 @@
 -- Statements that antt computes: document 01's frames to try that are marked P, in one table; frames of the strict profile, in
--- another; three frames as they are written; and marks.
+-- another; and three frames as they are written.
 -- Assumes nothing.
-use Rattle.std.specs.Prelude.{ℕ, true, false, pos, ◌≡◌, List, [], ◌∷◌, map}
 use Prim.Native.String.{String}
+use Rattle.std.specs.Prelude.{pos, ◌≡◌, List, [], ◌∷◌, map}
 use Rattle.bencode.specs.declared.profile.Profile.{Profile}
 use Rattle.ipc.specs.declared.writer.Given.{Given}
 use Rattle.ipc.specs.Answer.{Answer, integer, part, refused, accepted, accepted_handshake, off_format}
 use Rattle.octets.specs.Ascii.{ascii}
-use Rattle.ipc.specs.Marks.{marks_of, cased_in, is_stray}
-use Rattle.ipc.specs.Reader.{read_frame_by, read_frame, read_marks}
+use Rattle.ipc.specs.Reader.{read_frame_by, read_frame}
 use Rattle.ipc.specs.HandshakeWriter.{handshake_payload}
-use Rattle.ipc.specs.Writer.{payload_of, frame_of, marked_frame}
+use Rattle.ipc.specs.Writer.{payload_of, frame_of}
 
 -- a frame and its answer
 pub record Try : Type 0 where
@@ -62,32 +61,3 @@ abbrev pub FramesWritten : Type 0
 FramesWritten = (frame_of (payload_of 11 Given.Nothing [] 0) ≡ ascii "0000000Al4:noop0:e")
     × (frame_of (payload_of 16 Given.Bytes (ascii "li8ee") 15) ≡ ascii "00000012l5:startli8eei15ee")
     × (frame_of (handshake_payload 1 2) ≡ ascii "0000001Dd7:versiond3:mini1e3:maxi2eee")
-
--- frames and the marks that are passed on (document 02, request 02): a lower case letter has one, and a refusal has none, be it
--- 22, 8 or 4
-pub record MarkTry : Type 0 where
-  pub frame : String
-  pub marks : ℕ
-
-abbrev marked : String → ℕ → MarkTry
-marked f m = record { frame = f; marks = m }
-
-unfoldable pub mark_tries : List MarkTry
-mark_tries =
-    marked "0000000Fl4:porti65535ee" 0 ∷
-    marked "0000000fl4:porti65535ee" 128 ∷
-    marked "0000001dd7:versiond3:mini1e3:maxi2eee" 128 ∷
-    marked "0000000fl4:porti65536ee" 0 ∷
-    marked "0000000ed1:ai1e1:ai2ee" 0 ∷
-    marked "0000abcd" 0 ∷
-    []
-
--- the same, the marks of eight digits and digits as marks ask for them, marks on letters alone and one on a `0`, a frame in
--- lower case
-abbrev pub MarksTried : Type 0
-MarksTried = (map (λ t. read_marks (ascii t.frame)) mark_tries ≡ map (λ t. t.marks) mark_tries)
-    × (marks_of (ascii "0000aBcD") ≡ 80)
-    × (cased_in 80 (ascii "0000ABCD") ≡ ascii "0000aBcD")
-    × (is_stray 80 (ascii "0000ABCD") ≡ false)
-    × (is_stray 81 (ascii "0000ABCD") ≡ true)
-    × (marked_frame 128 (payload_of 11 Given.Nothing [] 0) ≡ ascii "0000000al4:noop0:e")

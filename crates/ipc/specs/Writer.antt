@@ -1,7 +1,6 @@
 -- To be believed: refusals, `0:` for an ignored value, the buffer past a frame. A frame's bytes are else pinned by `ReadsBack`
--- and `WritesBack`, 45 by `StraysRefused`, a refused buffer by `RefusalKeeps`, `is_id_list` by `IdListExactly`; `NoMarks` says when
--- `frame_of`, `fitted` and `write_answer` are the writer's. The writer of messages (document 01, 'What the writer says'; marks: document 02,
--- request 02).
+-- and `WritesBack` (upper case: see Hex), a refused buffer by `RefusalKeeps`, `is_id_list` by `IdListExactly`. The writer of
+-- messages (document 01, 'What the writer says').
 -- Assumes nothing.
 use Rattle.std.specs.Prelude.{ℕ, ◌+◌, ◌≡◌, Bool, true, false, cond, ◌&&◌, eqb, leb, ℤ, pos, length}
 use mathlib.Core.List.{List, [], ◌∷◌, ◌++◌, flatten}
@@ -17,7 +16,6 @@ use Rattle.ipc.specs.declared.writer.Given.{Given}
 use Rattle.ipc.specs.declared.writer.Written.{Written}
 use Rattle.ipc.specs.Header.{header_length, largest_payload}
 use Rattle.ipc.specs.Hex.{hex_header}
-use Rattle.ipc.specs.Marks.{cased_in, is_stray}
 use Rattle.ipc.specs.Ids.{largest_tag}
 use Rattle.ipc.specs.Keys.{key_text, class_of, is_written}
 use Rattle.ipc.specs.Format.{largest_port, items_end}
@@ -118,13 +116,9 @@ payload_parts key given s tag = (letter_l ∷ []) ∷ encode_string (key_text ke
 unfoldable pub payload_of : ℕ → Given → List ℕ → ℕ → List ℕ
 payload_of key given s tag = flatten (payload_parts key given s tag)
 
--- a payload after its length, in upper case
+-- a payload after its length
 unfoldable pub frame_of : List ℕ → List ℕ
 frame_of payload = hex_header (length payload) ++ payload
-
--- the same in the case that marks ask for
-unfoldable pub marked_frame : ℕ → List ℕ → List ℕ
-marked_frame marks payload = cased_in marks (hex_header (length payload)) ++ payload
 
 -- ---- the answer
 -- a frame that is asked for, into a buffer of a length: 43, 44, or the count
@@ -146,23 +140,9 @@ message_fault key given s tag = cond (is_written key) (cond (value_fits (class_o
 unfoldable pub write_answer : ℕ → Given → List ℕ → ℕ → ℕ → Written
 write_answer key given s tag room = cond (eqb (message_fault key given s tag) 0) (fitted (payload_of key given s tag) room) (Written.Refused (message_fault key given s tag))
 
--- ---- the answer with marks
--- a frame with marks: 43, 45 for a mark on a place that holds no letter, 44, or the count
-unfoldable pub marked_fitted : ℕ → List ℕ → ℕ → Written
-marked_fitted marks payload room = cond (leb (length payload) largest_payload && is_stray marks (hex_header (length payload))) (Written.Refused 45) (fitted payload room)
-
--- the refusal of a payload's length with marks: 43, 45, 44, or 0 for none
-unfoldable pub marked_fault : ℕ → ℕ → ℕ → ℕ
-marked_fault marks size room = cond (leb size largest_payload && is_stray marks (hex_header size)) 45 (length_fault size room)
-
--- the answer to a message with marks, the writer's: 40 to 43, 45, 44
-unfoldable pub marked_answer : ℕ → Given → List ℕ → ℕ → ℕ → ℕ → Written
-marked_answer key given s tag marks room =
-    cond (eqb (message_fault key given s tag) 0) (marked_fitted marks (payload_of key given s tag) room) (Written.Refused (message_fault key given s tag))
-
 -- what a writer did: its answer, also as document 01's code and count, and the whole buffer
-pub record Leaves (answer : Written) (frame before : List ℕ) (r : Written) (after : List ℕ) : Type 0 where
+pub record Leaves (answer : Written) (payload before : List ℕ) (r : Written) (after : List ℕ) : Type 0 where
   pub answered : r ≡ answer
   pub code : written_code r ≡ written_code answer
   pub count : written_count r ≡ written_count answer
-  pub buffer : after ≡ buffer_after r frame before
+  pub buffer : after ≡ buffer_after r (frame_of payload) before

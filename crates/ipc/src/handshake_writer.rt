@@ -6,7 +6,6 @@ ghost use Rattle.ipc.specs.HandshakeWriter.{handshake_payload, handshake_written
 
 use super::header::HEADER_LENGTH;
 use super::hex::hex_header;
-use super::marks::Marks;
 use super::versions::{OptionalVersions, Versions};
 use super::writer::Written;
 use bencode::{integer_length, put_integer};
@@ -20,7 +19,7 @@ fn put_handshake(out: &mut [u8], low: u32, high: u32, size: u32) -> usize
     requires { (size ≡ length (handshake_payload low high)) × (length (frame_of (handshake_payload low high)) ≤ length out.old) }
     ensures { Wrote out.old 0 (frame_of (handshake_payload low high)) out.new result }
 {
-    let header = hex_header(size, Marks::NONE);
+    let header = hex_header(size);
     let o = put_bytes(out, 0, &header);
     let o = put_bytes(out, o, b"d7:versiond3:min");
     let o = put_integer(out, o, low as i64);
@@ -31,7 +30,7 @@ fn put_handshake(out: &mut [u8], low: u32, high: u32, size: u32) -> usize
 
 // Writes the handshake of a range.
 fn write_range(low: u32, high: u32, out: &mut [u8]) -> Written
-    ensures { Leaves (fitted (handshake_payload low high) (length out.old)) (frame_of (handshake_payload low high)) out.old result out.new }
+    ensures { Leaves (fitted (handshake_payload low high) (length out.old)) (handshake_payload low high) out.old result out.new }
 {
     let size = integer_length(low as i64) + integer_length(high as i64) + HANDSHAKE_TEXT;
     if out.len() < HEADER_LENGTH + size {
@@ -42,7 +41,7 @@ fn write_range(low: u32, high: u32, out: &mut [u8]) -> Written
 
 // Writes a handshake at the front of a buffer, or refuses and writes nothing.
 pub fn write_handshake(low: u32, high: u32, out: &mut [u8]) -> Written
-    ensures { Leaves (handshake_written low high (length out.old)) (frame_of (handshake_payload low high)) out.old result out.new }
+    ensures { Leaves (handshake_written low high (length out.old)) (handshake_payload low high) out.old result out.new }
 {
     match Versions::new(low as i64, high as i64) {
         OptionalVersions::Range(_) => write_range(low, high, out),

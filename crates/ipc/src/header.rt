@@ -1,8 +1,6 @@
 // The header of a frame: 8 hex digits of either case for the payload's length.
 ghost use Rattle.std.specs.Prelude.{◌≡◌};
-ghost use Rattle.ipc.specs.Header.{hex_value, read_header, header_marks, header_code, header_offset, sized, size_code, length_code};
-
-use super::marks::{Marks, highest_mark};
+ghost use Rattle.ipc.specs.Header.{hex_value, read_header, header_code, header_offset, sized, size_code, length_code};
 
 // What reading a header finds: the number, the offset of a byte that is no hex digit, or too few bytes.
 #[derive(Drop)]
@@ -10,13 +8,6 @@ pub enum Header {
     Length(u32),
     NoDigit(usize),
     Short,
-}
-
-// It with the marks of the digits; a fault comes with none.
-#[derive(Drop)]
-pub struct MarkedHeader {
-    pub header: Header,
-    pub marks: Marks,
 }
 
 // How many bytes a header has.
@@ -91,39 +82,23 @@ fn hex_value(c: u8) -> u32
     16
 }
 
-fn unmarked(header: Header) -> MarkedHeader
-    ensures { (result.header ≡ header) × (result.marks.0 ≡ 0) }
-{
-    MarkedHeader {
-        header,
-        marks: Marks::NONE,
-    }
-}
-
-// Reads the 8 hex digits at the front. Each digit's mark comes in at the highest bit and moves down as later ones do.
-pub fn read_header(s: &[u8]) -> MarkedHeader
-    ensures header_value { result.header ≡ read_header s.now }
-    ensures header_value_2 { (header_code result.header ≡ header_code (read_header s.now)) × (header_offset result.header ≡ header_offset (read_header s.now)) }
-    ensures marks_value { result.marks.0 ≡ header_marks s.now }
+// Reads the 8 hex digits at the front.
+pub fn read_header(s: &[u8]) -> Header
+    ensures value { result ≡ read_header s.now }
+    ensures result_value { (header_code result ≡ header_code (read_header s.now)) × (header_offset result ≡ header_offset (read_header s.now)) }
 {
     let mut value: u32 = 0;
-    let mut marks: u8 = 0;
     let mut i: usize = 0;
     while i < HEADER_LENGTH {
         if s.len() <= i {
-            return unmarked(Header::Short);
+            return Header::Short;
         }
-        let c = s[i];
-        let d = hex_value(c);
+        let d = hex_value(s[i]);
         if 16 <= d {
-            return unmarked(Header::NoDigit(i));
+            return Header::NoDigit(i);
         }
         value = 16 * value + d;
-        marks = marks / 2 + highest_mark(c);
         i += 1;
     }
-    MarkedHeader {
-        header: Header::Length(value),
-        marks: Marks(marks),
-    }
+    Header::Length(value)
 }

@@ -4,7 +4,7 @@ ghost use Rattle.ipc.specs.Answer.{nothing, versions, refused, off_format, accep
 ghost use Rattle.ipc.specs.Numbers.{placed, numbered, value_numbers, numbers_of};
 
 use super::ids::OptionalTag;
-use super::reading::{MarkedReading, Message, Reading, Value};
+use super::reading::{Message, Reading, Value};
 use super::versions::Versions;
 
 // The value of an answer, by its kind.
@@ -31,15 +31,13 @@ impl ValueNumbers {
     pub const VERSIONS: u8 = 4;
 }
 
-// The seven fields of document 01's answer, and the marks of the header. A refusal is of no kind, so that its kind is never
-// taken for a message's.
+// The seven fields of document 01's answer. A refusal is of no kind, so that its kind is never taken for a message's.
 #[repr(C)]
 #[derive(Drop)]
 pub struct Numbers {
     pub code: u8,
     pub kind: u8,
     pub key: u8,
-    pub marks: u8,
     pub tag: u32,
     pub offset: usize,
     pub consumed: usize,
@@ -123,14 +121,13 @@ fn tag_number(tag: OptionalTag) -> u32
 }
 
 fn of_refusal(code: u8, offset: usize) -> Numbers
-    ensures { result ≡ numbers_of (refused code offset) 0 }
+    ensures { result ≡ numbers_of (refused code offset) }
 {
     let value = nothing_numbers();
     Numbers {
         code,
         kind: Numbers::NO_KIND,
         key: 0,
-        marks: 0,
         tag: 0,
         offset,
         consumed: 0,
@@ -139,7 +136,7 @@ fn of_refusal(code: u8, offset: usize) -> Numbers
 }
 
 fn of_message(message: Message, consumed: usize) -> Numbers
-    ensures { result ≡ numbers_of (accepted consumed message.key (tag_number message.tag) (content_of message.value)) 0 }
+    ensures { result ≡ numbers_of (accepted consumed message.key (tag_number message.tag) (content_of message.value)) }
 {
     let tag = message.tag;
     let tag = tag_number(tag);
@@ -149,7 +146,6 @@ fn of_message(message: Message, consumed: usize) -> Numbers
         code: 0,
         kind: Numbers::MESSAGE,
         key: message.key,
-        marks: 0,
         tag,
         offset: 0,
         consumed,
@@ -158,14 +154,13 @@ fn of_message(message: Message, consumed: usize) -> Numbers
 }
 
 fn of_handshake(versions: Versions, consumed: usize) -> Numbers
-    ensures { result ≡ numbers_of (accepted_handshake consumed versions.min versions.max) 0 }
+    ensures { result ≡ numbers_of (accepted_handshake consumed versions.min versions.max) }
 {
     let value = versions_numbers(versions);
     Numbers {
         code: 0,
         kind: Numbers::HANDSHAKE,
         key: 0,
-        marks: 0,
         tag: 0,
         offset: 0,
         consumed,
@@ -174,7 +169,7 @@ fn of_handshake(versions: Versions, consumed: usize) -> Numbers
 }
 
 fn of_off_format(key: u8, tag: OptionalTag) -> Numbers
-    ensures { result ≡ numbers_of (off_format key (tag_number tag)) 0 }
+    ensures { result ≡ numbers_of (off_format key (tag_number tag)) }
 {
     let tag = tag_number(tag);
     let value = nothing_numbers();
@@ -182,7 +177,6 @@ fn of_off_format(key: u8, tag: OptionalTag) -> Numbers
         code: Numbers::OFF_FORMAT,
         kind: Numbers::NO_KIND,
         key,
-        marks: 0,
         tag,
         offset: 0,
         consumed: 0,
@@ -190,9 +184,9 @@ fn of_off_format(key: u8, tag: OptionalTag) -> Numbers
     }
 }
 
-// The numbers of a reading, with no marks.
-fn unmarked_numbers(reading: Reading) -> Numbers
-    ensures { result ≡ numbers_of (answer_of reading) 0 }
+// The numbers of a reading.
+pub fn numbers_of(reading: Reading) -> Numbers
+    ensures { result ≡ numbers_of (answer_of reading) }
 {
     match reading {
         Reading::Message { message, consumed } => of_message(message, consumed),
@@ -206,15 +200,4 @@ fn unmarked_numbers(reading: Reading) -> Numbers
         Reading::NoHandshake => of_refusal(21, 0),
         Reading::OffFormat { key, tag } => of_off_format(key, tag),
     }
-}
-
-// The numbers of a reading and its marks.
-pub fn numbers_of(marked: MarkedReading) -> Numbers
-    ensures { result ≡ numbers_of (answer_of marked.reading) marked.marks.0 }
-{
-    let reading = marked.reading;
-    let marks = marked.marks;
-    let mut numbers = unmarked_numbers(reading);
-    numbers.marks = marks.0;
-    numbers
 }

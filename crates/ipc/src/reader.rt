@@ -3,13 +3,12 @@ ghost use Rattle.std.specs.Prelude.{◌≡◌, ◌≤◌, length};
 ghost use Rattle.bencode.specs.declared.profile.Profile.{Profile};
 ghost use Rattle.ipc.specs.Header.{largest_payload};
 ghost use Rattle.ipc.specs.Answer.{answer_of};
-ghost use Rattle.ipc.specs.Reader.{payload_reading, length_reading, by_header, reading_by, read_frame_by, frame_reading, read_frame, marks_for, read_marks_by, read_marks};
+ghost use Rattle.ipc.specs.Reader.{payload_reading, length_reading, reading_by, read_frame_by, frame_reading, read_frame};
 
 use super::handshake::handshake;
 use super::header::{HEADER_LENGTH, Header, PayloadLength, Sized, read_header};
-use super::marks::Marks;
 use super::message::message;
-use super::reading::{MarkedReading, Reading};
+use super::reading::Reading;
 use bencode::{Profile, Walk, payload};
 use octets::byte_at;
 
@@ -45,11 +44,11 @@ fn read_length(s: &[u8], length: PayloadLength, profile: Profile) -> Reading
     read_payload(&s[HEADER_LENGTH..end], profile)
 }
 
-// The answer for the frame at the front of the bytes, by what its header says.
-fn read_headed(s: &[u8], header: Header, profile: Profile) -> Reading
-    ensures { result ≡ by_header profile s.now header }
+// The answer for the frame at the front of the bytes.
+fn read_by(s: &[u8], profile: Profile) -> Reading
+    ensures { result ≡ reading_by profile s.now }
 {
-    match header {
+    match read_header(s) {
         Header::Length(n) => match PayloadLength::new(n) {
             Sized::Length(length) => read_length(s, length, profile),
             Sized::OverLimit => Reading::OverLimit,
@@ -60,50 +59,18 @@ fn read_headed(s: &[u8], header: Header, profile: Profile) -> Reading
     }
 }
 
-// The marks that are passed on: the header's with a message or a handshake, none with a refusal.
-fn passed_on(reading: Reading, marks: Marks) -> Marks
-    ensures { result.0 ≡ marks_for reading marks.0 }
-{
-    match reading {
-        Reading::Message {
-            message: _,
-            consumed: _,
-        } => marks,
-        Reading::Handshake {
-            versions: _,
-            consumed: _,
-        } => marks,
-        _ => Marks::NONE,
-    }
-}
-
-// The answer for the frame at the front of the bytes, with its marks.
-fn read_by(s: &[u8], profile: Profile) -> MarkedReading
-    ensures reading_value { result.reading ≡ reading_by profile s.now }
-    ensures marks_value { result.marks.0 ≡ read_marks_by profile s.now }
-{
-    let head = read_header(s);
-    let header = head.header;
-    let reading = read_headed(s, header, profile);
-    let found = head.marks;
-    let marks = passed_on(reading, found);
-    MarkedReading { reading, marks }
-}
-
 // Reads the frame at the front of the bytes. Bytes after it are left for the next read.
-pub fn read(s: &[u8]) -> MarkedReading
-    ensures reading_value { result.reading ≡ frame_reading s.now }
-    ensures reading_value_2 { answer_of result.reading ≡ read_frame s.now }
-    ensures marks_value { result.marks.0 ≡ read_marks s.now }
+pub fn read(s: &[u8]) -> Reading
+    ensures value { result ≡ frame_reading s.now }
+    ensures result_value { answer_of result ≡ read_frame s.now }
 {
     read_by(s, Profile::Loose)
 }
 
 // The same in the strict profile: a key that does not rise is refused by 11.
-pub fn read_strict(s: &[u8]) -> MarkedReading
-    ensures reading_value { result.reading ≡ reading_by Profile.Strict s.now }
-    ensures reading_value_2 { answer_of result.reading ≡ read_frame_by Profile.Strict s.now }
-    ensures marks_value { result.marks.0 ≡ read_marks_by Profile.Strict s.now }
+pub fn read_strict(s: &[u8]) -> Reading
+    ensures value { result ≡ reading_by Profile.Strict s.now }
+    ensures result_value { answer_of result ≡ read_frame_by Profile.Strict s.now }
 {
     read_by(s, Profile::Strict)
 }

@@ -1,6 +1,5 @@
 // What reading a frame answers.
 use super::ids::OptionalTag;
-use super::marks::Marks;
 use super::versions::Versions;
 
 // The value of a message. Offsets count from the frame's first byte.
@@ -44,11 +43,4 @@ pub enum Reading {
     NoHandshake,
     // A listed key's value is off its format.
     OffFormat { key: u8, tag: OptionalTag },
-}
-
-// It with the marks of the frame's header; a refusal comes with none.
-#[derive(Drop)]
-pub struct MarkedReading {
-    pub reading: Reading,
-    pub marks: Marks,
 }

@@ -1,14 +1,13 @@
 // The writer of messages.
 ghost use Rattle.std.specs.Prelude.{◌≡◌, ◌≤◌, length};
 ghost use Rattle.octets.specs.Put.{Wrote, Put};
-ghost use Rattle.ipc.specs.Writer.{encode_bytes, encode_given, encode_tag, payload_of, marked_frame, message_fault, length_fault, marked_fault, marked_answer, Leaves};
+ghost use Rattle.ipc.specs.Writer.{encode_bytes, encode_given, encode_tag, payload_of, frame_of, message_fault, length_fault, write_answer, Leaves};
 
 use super::check::{tag_fits, value_fits};
 use super::header::{HEADER_LENGTH, PayloadLength, Sized};
 use super::hex::hex_header;
 use super::keys::{Class, class_of, is_written, put_key};
 use super::lengths::{key_length, tag_length, value_length};
-use super::marks::{Marks, is_stray};
 use bencode::{put_integer, put_string};
 use octets::put_bytes;
 
@@ -38,8 +37,6 @@ impl Written {
     pub const LENGTH: u8 = 43;
     // A buffer shorter than the frame.
     pub const ROOM: u8 = 44;
-    // A mark on a place that holds no letter.
-    pub const MARK: u8 = 45;
 }
 
 // A payload's `l` and `e`.
@@ -107,35 +104,12 @@ fn length_fault(size: u32, room: usize) -> u8
     }
 }
 
-// The refusal of a payload's length with marks in a room: 43, 45, 44, or 0 for none.
-fn marked_fault(marks: Marks, size: u32, room: usize) -> u8
-    ensures { result ≡ marked_fault marks.0 size room }
-{
-    let code = length_fault(size, room);
-    if code == Written::LENGTH {
-        return code;
-    }
-    let digits = hex_header(size, Marks::NONE);
-    if is_stray(marks, &digits) {
-        return Written::MARK;
-    }
-    code
-}
-
 // Writes the frame of a message whose payload has a length.
-fn put_message(
-    out: &mut [u8],
-    key: u8,
-    given: Given,
-    s: &[u8],
-    tag: u32,
-    marks: Marks,
-    size: u32,
-) -> usize
-    requires { (size ≡ length (payload_of key given s.now tag)) × (length (marked_frame marks.0 (payload_of key given s.now tag)) ≤ length out.old) }
-    ensures { Wrote out.old 0 (marked_frame marks.0 (payload_of key given s.now tag)) out.new result }
+fn put_message(out: &mut [u8], key: u8, given: Given, s: &[u8], tag: u32, size: u32) -> usize
+    requires { (size ≡ length (payload_of key given s.now tag)) × (length (frame_of (payload_of key given s.now tag)) ≤ length out.old) }
+    ensures { Wrote out.old 0 (frame_of (payload_of key given s.now tag)) out.new result }
 {
-    let header = hex_header(size, marks);
+    let header = hex_header(size);
     let o = put_bytes(out, 0, &header);
     let o = put_bytes(out, o, b"l");
     let o = put_key(out, o, key);
@@ -145,8 +119,8 @@ fn put_message(
 }
 
 // Writes a message at the front of a buffer, or refuses and writes nothing.
-pub fn write(key: u8, given: Given, s: &[u8], tag: u32, marks: Marks, out: &mut [u8]) -> Written
-    ensures { Leaves (marked_answer key given s.now tag marks.0 (length out.old)) (marked_frame marks.0 (payload_of key given s.now tag)) out.old result out.new }
+pub fn write(key: u8, given: Given, s: &[u8], tag: u32, out: &mut [u8]) -> Written
+    ensures { Leaves (write_answer key given s.now tag (length out.old)) (payload_of key given s.now tag) out.old result out.new }
 {
     let code = message_fault(key, given, s, tag);
     if code != 0 {
@@ -156,9 +130,9 @@ pub fn write(key: u8, given: Given, s: &[u8], tag: u32, marks: Marks, out: &mut 
         + value_length(class_of(key), given, s)
         + tag_length(tag)
         + LIST_ENDS) as u32;
-    let code = marked_fault(marks, size, out.len());
+    let code = length_fault(size, out.len());
     if code != 0 {
         return Written::Refused(code);
     }
-    Written::Count(put_message(out, key, given, s, tag, marks, size))
+    Written::Count(put_message(out, key, given, s, tag, size))
 }

@@ -24,7 +24,7 @@ use Rattle.ipc.specs.Demands.{bytes_named}
 use Rattle.ipc.specs.Keys.{listed as keys, class_of}
 use Rattle.ipc.specs.Writer.{payload_of}
 use Rattle.ipc.proofs.writing.WriterLaws.{frame_length}
-use Rattle.ipc.proofs.NoMarks.{upper_reads_back}
+use Rattle.ipc.proofs.ReadsBack.{reads_back}
 use Rattle.desk.specs.Limit.{is_limit}
 use Rattle.desk.specs.Command.{Command, no_tag, downlimit_key, start_key, stop_key, uplimit_key, id_list, message_frame, limit_frame, ids_frame, command_frame, frames_of, longest_frames, LimitKey, ListKey}
 use Rattle.desk.specs.Machine.{Machine, obey, ids_in, limit_command, ids_command, content_command, command_in, obeying, takes, handed}
@@ -68,7 +68,7 @@ module _ (tag : ℕ) (small : tag ≤ largest_tag) where
       → Reads tag (limit_frame tag key n) rest c
   unfolding message_frame content_command
   limit_reads key n rest c k h e =
-      let r = upper_reads_back key tag longest_frames (length (limit_frame tag key n)) (Given.Integer n) [] rest (limit_range n h) (writable_answer tag key (Given.Integer n) [] longest_frames (limit_writable tag small key n k h) (limit_room tag small key n k h)) in
+      let r = reads_back key tag longest_frames (length (limit_frame tag key n)) (Given.Integer n) [] rest (limit_range n h) (writable_answer tag key (Given.Integer n) [] longest_frames (limit_writable tag small key n k h) (limit_room tag small key n k h)) in
       record {
         content = r.0;
         key = key;
@@ -80,7 +80,7 @@ module _ (tag : ℕ) (small : tag ≤ largest_tag) where
       → Reads tag (ids_frame tag key ids) rest c
   unfolding message_frame content_command
   ids_reads key ids rest c k class h e =
-      let r = upper_reads_back key tag longest_frames (length (ids_frame tag key ids)) Given.Bytes (id_list ids) rest tt (writable_answer tag key Given.Bytes (id_list ids) longest_frames (ids_writable tag small key ids k h.0 h.1) (ids_room tag small key ids k h.0 h.1)) in
+      let r = reads_back key tag longest_frames (length (ids_frame tag key ids)) Given.Bytes (id_list ids) rest tt (writable_answer tag key Given.Bytes (id_list ids) longest_frames (ids_writable tag small key ids k h.0 h.1) (ids_room tag small key ids k h.0 h.1)) in
       let at = r.2.0 in
       let named : r.0 ≡ part at (length (id_list ids)) = r.2.1 ∙ ap (λ (f : Class). bytes_named f at (length (id_list ids))) class in
       record {

@@ -17,8 +17,7 @@ use Rattle.octets.proofs.digits.DigitLaws.{lt_or_le}
 use Rattle.octets.proofs.writing.PutLaws.{wrote_front}
 use Rattle.ipc.specs.declared.writer.Given.{Given}
 use Rattle.ipc.specs.declared.writer.Written.{Written}
-use Rattle.ipc.specs.Writer.{payload_of, frame_of, write_answer, marked_frame, marked_answer, buffer_after, Leaves}
-use Rattle.ipc.proofs.NoMarks.{leaves_upper}
+use Rattle.ipc.specs.Writer.{payload_of, frame_of, write_answer, buffer_after, Leaves}
 use Rattle.desk.specs.Command.{message_frame, Writable}
 use Rattle.desk.proofs.writing.Writes.{writable_answer, writable_short}
 
@@ -62,13 +61,9 @@ module _ (before : List ℕ) (at : ℕ) (inside : at ≤ length before) where
       ∙ ap (λ (l : List ℕ). take at before ++ l) (append-nil part)
 
   module _ (tag key : ℕ) (given : Given) (s : List ℕ) (w : Writable tag key given s) {r : Written} {part : List ℕ}
-      (left : Leaves (marked_answer key given s tag 0 (length (mid_of at rest before))) (marked_frame 0 (payload_of key given s tag)) (mid_of at rest before) r part) where
+      (o : Leaves (write_answer key given s tag (length (mid_of at rest before))) (payload_of key given s tag) (mid_of at rest before) r part) where
     abbrev frame : List ℕ
     frame = message_frame tag key given s
-
-    -- it is written with no marks
-    o : Leaves (write_answer key given s tag (length (mid_of at rest before))) (frame_of (payload_of key given s tag)) (mid_of at rest before) r part
-    o = leaves_upper key tag (length (mid_of at rest before)) given s left
 
     -- an answer with a count: the frame has room, and it is the count
     module _ (n : ℕ) (e : r ≡ Written.Count n) where

@@ -21,12 +21,11 @@ use Rattle.ipc.specs.declared.header.Header.{Header}
 use Rattle.ipc.specs.declared.header.PayloadLength.{PayloadLength}
 use Rattle.ipc.specs.declared.header.Sized.{Sized}
 use Rattle.ipc.specs.declared.reading.Reading.{Reading}
-use Rattle.ipc.specs.Header.{largest_payload, protocol_payload, sized}
+use Rattle.ipc.specs.Header.{largest_payload, protocol_payload, read_header, sized}
 use Rattle.ipc.specs.Message.{message_reading}
 use Rattle.ipc.specs.Handshake.{handshake_reading}
-use Rattle.ipc.specs.Reader.{payload_reading, length_reading, by_size, by_header, marks_for}
+use Rattle.ipc.specs.Reader.{payload_reading, length_reading, by_size, reading_by}
 use Rattle.ipc.specs.contracts.header.Sized.{the_type}
-use Rattle.ipc.specs.contracts.reading.Reading.{the_type as reading-type}
 
 module _ (profile : Profile) (p : List ℕ) where
   pub payload_fault : (f : Fault) → payload_at profile p ≡ Walk.Fault f → Reading.Payload f ≡ payload_reading profile p
@@ -98,25 +97,12 @@ sized_length n l e = omega (arith, sized_small n l e, sized_same n l e)
 pub sized_over : (n : ℕ) (z : Sized) → z ≡ sized n → OneOf (1 ∷ 2 ∷ []) (tag_of the_type z) → largest_payload < n
 sized_over n z e h = ⊎_elim (λ (l : largest_payload < n). l) (λ (l : n ≤ largest_payload). absurd (miss (1 ∷ 2 ∷ []) 0 tt (subst (λ (y : Sized). OneOf (1 ∷ 2 ∷ []) (tag_of the_type y)) (e ∙ sized_fits n l) h))) (lt_or_le largest_payload n)
 
-module _ (profile : Profile) (s : List ℕ) (h : Header) where
-  pub frame_no_digit : (at : ℕ) → h ≡ Header.NoDigit at → Reading.NoDigit at ≡ by_header profile s h
+module _ (profile : Profile) (s : List ℕ) where
+  pub frame_no_digit : (at : ℕ) → read_header s ≡ Header.NoDigit at → Reading.NoDigit at ≡ reading_by profile s
   frame_no_digit at e = rw e refl
 
-  pub frame_short : h ≡ Header.Short → Reading.Incomplete ≡ by_header profile s h
+  pub frame_short : read_header s ≡ Header.Short → Reading.Incomplete ≡ reading_by profile s
   frame_short e = rw e refl
 
-  pub frame_sized : (n : ℕ) (z : Sized) → h ≡ Header.Length n → sized n ≡ z → by_size profile s z ≡ by_header profile s h
-  frame_sized n z e o = rw (e, o) refl
-
--- the marks that are passed on, by the numbers of the kinds in the order of the source
-pub refusal_unmarked : (r : Reading) (m : ℕ) → OneOf (2 ∷ 3 ∷ 4 ∷ 5 ∷ 6 ∷ 7 ∷ 8 ∷ 9 ∷ []) (tag_of reading-type r) → 0 ≡ marks_for r m
-refusal_unmarked (Reading.Message x used) m h = absurd (miss (2 ∷ 3 ∷ 4 ∷ 5 ∷ 6 ∷ 7 ∷ 8 ∷ 9 ∷ []) 0 tt h)
-refusal_unmarked (Reading.Handshake v used) m h = absurd (miss (2 ∷ 3 ∷ 4 ∷ 5 ∷ 6 ∷ 7 ∷ 8 ∷ 9 ∷ []) 1 tt h)
-refusal_unmarked Reading.Incomplete m h = refl
-refusal_unmarked (Reading.NoDigit at) m h = refl
-refusal_unmarked Reading.OverProtocol m h = refl
-refusal_unmarked Reading.OverLimit m h = refl
-refusal_unmarked (Reading.Payload f) m h = refl
-refusal_unmarked Reading.NoMessage m h = refl
-refusal_unmarked Reading.NoHandshake m h = refl
-refusal_unmarked (Reading.OffFormat k t) m h = refl
+  pub frame_sized : (n : ℕ) (z : Sized) → read_header s ≡ Header.Length n → sized n ≡ z → by_size profile s z ≡ reading_by profile s
+  frame_sized n z e h = rw (e, h) refl

@@ -1,22 +1,66 @@
 -- Hex digits that were read are written again in upper case, and those that were written are read again.
 -- Assumes nothing.
-use Prim.Native.Nat.{ℕ, zero, suc, ◌+◌, ◌*◌, ◌/◌, ◌%◌, ◌^◌, ◌<◌}
+use Prim.Native.Nat.{ℕ, zero, suc, ◌+◌, ◌*◌, ◌-◌, ◌/◌, ◌%◌, ◌^◌, ◌≤◌, ◌<◌}
 use mathlib.Core.Bool.{Bool}
 use mathlib.Core.Path.{◌≡◌, refl, sym, ap, ◌∙◌}
 use mathlib.Core.List.{List, [], ◌∷◌, ◌++◌, map, append_assoc, append-nil}
 use native.Mathlib.Nat.{pow-succ', one-le-pow, div-div-eq-div-mul, mul_assoc, mul_left_comm, add-mul}
 use native.Mathlib.Omega.{arith}
+use native.Mathlib.Decide.{dec_lt}
+use borrow.Author.Tests.{lt-ltb, le-ltb}
 use lib.Arith.{mod-mul}
 use lib.Dec.{eqb, eqb→eq}
 use lib.ListN.{length, replicate}
 use Rattle.octets.proofs.general.Table.{at}
 use Rattle.ipc.specs.Header.{header_length, hex_value}
-use Rattle.ipc.specs.Hex.{hex_digit, hex_in, hex_header}
+use Rattle.ipc.specs.Hex.{hex_digit, hex_in, hex_header, upper}
 use Rattle.ipc.specs.Demands.{HexDigits, none, more, hex_from}
 
--- a hex digit in upper case
-abbrev pub plain : ℕ → ℕ
-plain c = hex_digit (hex_value c)
+-- ---- one digit
+module _ (c : ℕ) where
+  decimal_upper : 48 ≤ c → c < 58 → hex_digit (hex_value c) ≡ upper c
+  unfolding hex_value hex_digit upper
+  decimal_upper a b = rw (le-ltb c 48 a, lt-ltb c 58 b, lt-ltb (c - 48) 10 (omega arith), lt-ltb c 97 (omega arith)) (omega arith)
+
+  capital_upper : 65 ≤ c → c < 71 → hex_digit (hex_value c) ≡ upper c
+  unfolding hex_value hex_digit upper
+  capital_upper a b =
+      rw (le-ltb c 48 (omega arith), le-ltb c 58 (omega arith), le-ltb c 65 a, lt-ltb c 71 b, le-ltb (c - 55) 10 (omega arith), lt-ltb c 97 (omega arith)) (omega arith)
+
+  letter_upper : 97 ≤ c → c < 103 → hex_digit (hex_value c) ≡ upper c
+  unfolding hex_value hex_digit upper
+  letter_upper a b =
+      rw (le-ltb c 48 (omega arith), le-ltb c 58 (omega arith), le-ltb c 65 (omega arith), le-ltb c 71 (omega arith), le-ltb c 97 a, lt-ltb c 103 b, le-ltb (c - 87) 10 (omega arith), lt-ltb c 123 (omega arith)) (omega arith)
+
+  -- bytes that are no digits
+  low_none : c < 48 → hex_value c ≡ 16
+  unfolding hex_value
+  low_none a = rw (lt-ltb c 48 a)
+
+  middle_none : 58 ≤ c → c < 65 → hex_value c ≡ 16
+  unfolding hex_value
+  middle_none a b = rw (le-ltb c 48 (omega arith), le-ltb c 58 a, lt-ltb c 65 b)
+
+  upper_none : 71 ≤ c → c < 97 → hex_value c ≡ 16
+  unfolding hex_value
+  upper_none a b = rw (le-ltb c 48 (omega arith), le-ltb c 58 (omega arith), le-ltb c 65 (omega arith), le-ltb c 71 a, lt-ltb c 97 b)
+
+  high_none : 103 ≤ c → hex_value c ≡ 16
+  unfolding hex_value
+  high_none a = rw (le-ltb c 48 (omega arith), le-ltb c 58 (omega arith), le-ltb c 65 (omega arith), le-ltb c 71 (omega arith), le-ltb c 97 (omega arith), le-ltb c 103 a)
+
+  -- the digit of a byte's value is the byte in upper case
+  pub digit_value : hex_value c < 16 → hex_digit (hex_value c) ≡ upper c
+  digit_value h = go (dec_lt c 48) (dec_lt c 58) (dec_lt c 65) (dec_lt c 71) (dec_lt c 97) (dec_lt c 103)
+    where
+      go : Dec (c < 48) → Dec (c < 58) → Dec (c < 65) → Dec (c < 71) → Dec (c < 97) → Dec (c < 103) → hex_digit (hex_value c) ≡ upper c
+      go (yes p) q r s t u = absurd (omega (arith, low_none p))
+      go (no p) (yes q) r s t u = decimal_upper (omega arith) q
+      go (no p) (no q) (yes r) s t u = absurd (omega (arith, middle_none (omega arith) r))
+      go (no p) (no q) (no r) (yes s) t u = capital_upper (omega arith) s
+      go (no p) (no q) (no r) (no s) (yes t) u = absurd (omega (arith, upper_none (omega arith) t))
+      go (no p) (no q) (no r) (no s) (no t) (yes u) = letter_upper (omega arith) u
+      go (no p) (no q) (no r) (no s) (no t) (no u) = absurd (omega (arith, high_none (omega arith)))
 
 -- ---- one digit more at the end
 digit_shift : (k a d : ℕ) → d < 16 → hex_digit ((16 * a + d) / 16 ^ suc k % 16) ≡ hex_digit (a / 16 ^ k % 16)
@@ -35,17 +79,18 @@ in_snoc zero a d h = rw (digit_last a d h)
 in_snoc (suc k) a d h = rw (digit_shift k a d h) (ap (λ (r : List ℕ). hex_digit (a / 16 ^ k % 16) ∷ r) (in_snoc k a d h))
 
 -- ---- all digits
-in_from : (cs : List ℕ) (n k v : ℕ) → n ≡ k + length cs → HexDigits cs → hex_in n (hex_from v cs) ≡ hex_in k v ++ map plain cs
+in_from : (cs : List ℕ) (n k v : ℕ) → n ≡ k + length cs → HexDigits cs → hex_in n (hex_from v cs) ≡ hex_in k v ++ map upper cs
 unfolding hex_from
 in_from [] n k v e p = let same : n ≡ k = omega arith in rw same (sym (append-nil (hex_in k v)))
 in_from (c ∷ cs) n k v e (more h p) =
     let e' : n ≡ suc k + length cs = omega arith in
     in_from cs n (suc k) (16 * v + hex_value c) e' p
-    ∙ ap (λ (r : List ℕ). r ++ map plain cs) (in_snoc k v (hex_value c) h)
-    ∙ append_assoc (hex_in k v) (plain c ∷ []) (map plain cs)
+    ∙ ap (λ (r : List ℕ). r ++ map upper cs) (in_snoc k v (hex_value c) h)
+    ∙ append_assoc (hex_in k v) (hex_digit (hex_value c) ∷ []) (map upper cs)
+    ∙ rw (digit_value c h)
 
 -- the number of a header's digits is written as them, in upper case
-pub header_from : (cs : List ℕ) → length cs ≡ header_length → HexDigits cs → hex_header (hex_from 0 cs) ≡ map plain cs
+pub header_from : (cs : List ℕ) → length cs ≡ header_length → HexDigits cs → hex_header (hex_from 0 cs) ≡ map upper cs
 unfolding hex_header hex_in
 header_from cs e p = in_from cs 8 0 0 (omega arith) p
 
@@ -63,7 +108,7 @@ header_length_lem n = in_length header_length n
 value_right : ℕ → ℕ → Bool
 value_right d x = eqb (hex_value (hex_digit d)) d
 
-pub value_digit : (d : ℕ) → d < 16 → hex_value (hex_digit d) ≡ d
+value_digit : (d : ℕ) → d < 16 → hex_value (hex_digit d) ≡ d
 unfolding value_right hex_value hex_digit
 value_digit d h = eqb→eq _ _ (at value_right (replicate 16 0) tt d h)
 

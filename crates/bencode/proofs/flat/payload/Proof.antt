@@ -17,7 +17,7 @@ returns : tie.Need-returns
 unfolding payload_at
 returns c =
     let a = c.before.before.before.args in
-    numbered a.profile a.s.now (c.whole.ensures ∙ ap (whole a.s.now) c.before.first_value_lem.ensures)
+    numbered a.profile a.s.now (c.whole.ensures ∙ ap (whole a.s.now) c.before.first-value.ensures)
 
 pub payload_spec : {M : Type 1} → statement M
 payload_spec = tie.close (tie.spec first-value-requires whole-requires returns)

@@ -1,7 +1,6 @@
 -- `c_api::read::bogsilver_read` meets its contract.
 -- Assumes nothing.
-use Prim.Native.Nat.{ℕ}
-use mathlib.Core.Path.{ap₂, ◌∙◌}
+use mathlib.Core.Path.{ap, ◌∙◌}
 use borrow.Author.Rules.{rules}
 use Rattle.ipc.specs.Answer.{Answer}
 use Rattle.ipc.specs.Numbers.{numbers_of}
@@ -15,7 +14,7 @@ numbers-of-requires : tie.Need-numbers-of-requires
 numbers-of-requires c κs = search rules
 
 returns : tie.Need-returns
-returns c = c.Numbers-of.ensures ∙ ap₂ (λ (x : Answer) (m : ℕ). numbers_of x m) c.before.read.ensures.1.0 c.before.read.ensures.1.1
+returns c = c.Numbers-of.ensures ∙ ap (λ (x : Answer). numbers_of x) c.before.read.ensures.1
 
 pub bogsilver_read_spec : {M : Type 1} → statement M
 bogsilver_read_spec = tie.close (tie.spec read-requires numbers-of-requires returns)

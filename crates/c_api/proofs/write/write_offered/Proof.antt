@@ -25,10 +25,10 @@ same_length : tie.Need-same-length
 same_length c = search rules
 
 returns : tie.Need-returns
-returns c = leaves_as c.before.before.before.before.before.before.before.before.before.args.key c.before.before.before.before.before.before.before.before.before.args.tag c.before.before.before.before.before.before.before.before.before.args.marks.0 c.before.before.before.before.before.before.before.before.before.args.s.now c.before.before.before.before.before.before.before.before.before.args.out.now _ _ (Offered.Given c.before.before.before.before.before.value.given.0.0) c.before.before.before.before.before.value.given.1 c.before.before.write.ensures
+returns c = leaves_as c.before.before.before.before.before.before.before.before.before.args.key c.before.before.before.before.before.before.before.before.before.args.tag c.before.before.before.before.before.before.before.before.before.args.s.now c.before.before.before.before.before.before.before.before.before.args.out.now _ _ (Offered.Given c.before.before.before.before.before.value.given.0.0) c.before.before.before.before.before.value.given.1 c.before.before.write.ensures
 
 returns-2 : tie.Need-returns-2
-returns-2 c = leaves_as c.before.before.before.before.before.args.key c.before.before.before.before.before.args.tag c.before.before.before.before.before.args.marks.0 c.before.before.before.before.before.args.s.now c.before.before.before.before.before.args.out.now _ _ Offered.Unknown c.before.enum_told.given.1 (leaves_refused _ _ _ _ (ap Written.Refused (sym c.unknown-code.ensures)))
+returns-2 c = leaves_as c.before.before.before.before.before.args.key c.before.before.before.before.before.args.tag c.before.before.before.before.before.args.s.now c.before.before.before.before.before.args.out.now _ _ Offered.Unknown c.before.enum_told.given.1 (leaves_refused _ _ _ _ (ap Written.Refused (sym c.unknown-code.ensures)))
 
 pub write_offered_spec : {M : Type 1} → statement M
 write_offered_spec =

@@ -11,7 +11,6 @@ use Rattle.octets.specs.Ascii.{ascii}
 use Rattle.bencode.proofs.scalars.Ranges.{natural_machine}
 use Rattle.ipc.specs.Hex.{hex_header}
 use Rattle.ipc.specs.HandshakeWriter.{handshake_payload}
-use Rattle.ipc.proofs.headers.MarkLaws.{cased_none}
 use Rattle.ipc.proofs.writing.WriterLaws.{frame_start, frame_finish}
 use Rattle.ipc.proofs.writing.HandshakeWriterLaws.{handshake_parts, handshake_parts_lem}
 use Rattle.ipc.proofs.handshake_writer.put_handshake.Statement.{statement}
@@ -30,7 +29,7 @@ w0 c =
 w1 : (c : tie.After-put-bytes) →
     let a = c.before.before.before.before.before in
     Left a c.put-bytes.new.0 c.put-bytes.result (handshake_parts a.args.low a.args.high)
-w1 c = next_put (w0 c.before.before.before.before.before) (rw (c.before.before.before.hex-header.ensures, cased_none (hex_header c.before.before.before.before.before.args.size)) at c.put-bytes.ensures)
+w1 c = next_put (w0 c.before.before.before.before.before) (rw c.before.before.before.hex-header.ensures at c.put-bytes.ensures)
 
 w2 : (c : tie.After-put-bytes2) →
     let a = c.before.before.before.before.before.before.before.before.before.before in

@@ -3,7 +3,6 @@
 use mathlib.Core.Path.{sym, ◌∙◌}
 use native.Mathlib.Omega.{arith}
 use lib.ListN.{length}
-use Rattle.ipc.specs.Writer.{frame_of}
 use Rattle.ipc.specs.HandshakeWriter.{handshake_payload, handshake_written}
 use Rattle.ipc.proofs.writing.HandshakeWriterLaws.{written_range, written_none}
 use Rattle.ipc.proofs.writing.WriterLaws.{leaves_same, leaves_refused}
@@ -41,7 +40,7 @@ returns c =
 returns-2 : tie.Need-returns-2
 returns-2 c =
     let a = c.before.before.before.before.args in
-    leaves_refused (handshake_written a.low a.high (length a.out.now)) (frame_of (handshake_payload a.low a.high)) a.out.now 41 (written_none a.low a.high (length a.out.now) (sym (range_machine a.low a.high (omega arith) (omega arith)) ∙ sym c.before.before.new.ensures ∙ c.enum-told2.given.1))
+    leaves_refused (handshake_written a.low a.high (length a.out.now)) (handshake_payload a.low a.high) a.out.now 41 (written_none a.low a.high (length a.out.now) (sym (range_machine a.low a.high (omega arith) (omega arith)) ∙ sym c.before.before.new.ensures ∙ c.enum-told2.given.1))
 
 pub write_handshake_spec : {M : Type 1} → statement M
 write_handshake_spec =

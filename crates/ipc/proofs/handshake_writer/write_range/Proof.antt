@@ -1,7 +1,7 @@
 -- `ipc::handshake_writer::write_range` refuses with 44, or writes the frame and counts its bytes.
 -- Assumes nothing.
 use Prim.Native.Nat.{ℕ, ◌+◌, ◌≤◌, ◌<◌, ◌^◌}
-use mathlib.Core.Path.{◌≡◌, sym, ap, ◌∙◌}
+use mathlib.Core.Path.{◌≡◌}
 use mathlib.Core.List.{List}
 use native.Mathlib.Omega.{arith}
 use borrow.Author.Rules.{rules}
@@ -9,11 +9,10 @@ use lib.IntN.{pos}
 use lib.ListN.{length}
 use Rattle.bencode.specs.Value.{integer, encode}
 use Rattle.bencode.proofs.scalars.Ranges.{natural_machine}
-use Rattle.ipc.specs.declared.writer.Written.{Written}
 use Rattle.ipc.specs.Header.{header_length, largest_payload}
 use Rattle.ipc.specs.Writer.{frame_of}
 use Rattle.ipc.specs.HandshakeWriter.{handshake_payload}
-use Rattle.ipc.proofs.writing.WriterLaws.{frame_length, fitted_44, fitted_count, leaves_refused, leaves_count}
+use Rattle.ipc.proofs.writing.WriterLaws.{frame_length, leaves_44, leaves_count}
 use Rattle.ipc.proofs.writing.HandshakeWriterLaws.{handshake_length}
 use Rattle.ipc.proofs.handshake_writer.write_range.Statement.{statement}
 use Rattle.ipc.proofs.handshake_writer.write_range.Tie as tie
@@ -64,7 +63,7 @@ returns : tie.Need-returns
 returns c =
     let a = c.before.before.before.before in
     let short : length a.args.out.now < header_length + length (payload a) = omega (arith, size c.before, c.if1.true) in
-    leaves_refused _ _ _ 44 (fitted_44 (payload a) (length a.args.out.now) (small c.before) short)
+    leaves_44 (payload a) a.args.out.now (small c.before) short
 
 cast-put-handshake : tie.Need-overflow-cast-put-handshake
 cast-put-handshake c = search rules
@@ -81,9 +80,7 @@ same_length c = search rules
 returns-2 : tie.Need-returns-2
 returns-2 c =
     let a = c.before.before.before.before.before.before.before.before in
-    let there = room c.before.before.before.before in
-    let long = frame_length (payload a) in
-    leaves_count _ _ _ (fitted_count (payload a) (length a.args.out.now) (small c.before.before.before.before.before) there ∙ ap Written.Count (sym long)) (omega (arith, there, long)) c.before.before.put-handshake.ensures
+    leaves_count (payload a) a.args.out.now (small c.before.before.before.before.before) (room c.before.before.before.before) c.before.before.put-handshake.ensures
 
 pub write_range_spec : {M : Type 1} → statement M
 write_range_spec =

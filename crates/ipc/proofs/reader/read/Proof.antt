@@ -3,7 +3,7 @@
 use mathlib.Core.Path.{ap}
 use borrow.Author.Rules.{rules}
 use Rattle.ipc.specs.Answer.{answer_of}
-use Rattle.ipc.specs.Reader.{frame_reading, read_frame, read_marks}
+use Rattle.ipc.specs.Reader.{frame_reading, read_frame}
 use Rattle.ipc.proofs.reader.read.Statement.{statement}
 use Rattle.ipc.proofs.reader.read.Tie as tie
 
@@ -11,8 +11,8 @@ read-by-requires : tie.Need-read-by-requires
 read-by-requires c κs = search rules
 
 returns : tie.Need-returns
-unfolding frame_reading read_frame read_marks
-returns c = (c.read_by_lem.ensures.0, (ap answer_of c.read_by_lem.ensures.0, c.read_by_lem.ensures.1))
+unfolding frame_reading read_frame
+returns c = (c.read_by_lem.ensures, ap answer_of c.read_by_lem.ensures)
 
 pub read_spec : {M : Type 1} → statement M
 read_spec = tie.close (tie.spec read-by-requires returns)

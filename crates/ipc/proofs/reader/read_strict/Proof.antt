@@ -10,7 +10,7 @@ read-by-requires : tie.Need-read-by-requires
 read-by-requires c κs = search rules
 
 returns : tie.Need-returns
-returns c = (c.read_by_lem.ensures.0, (ap answer_of c.read_by_lem.ensures.0, c.read_by_lem.ensures.1))
+returns c = (c.read_by_lem.ensures, ap answer_of c.read_by_lem.ensures)
 
 pub read_strict_spec : {M : Type 1} → statement M
 read_strict_spec = tie.close (tie.spec read-by-requires returns)

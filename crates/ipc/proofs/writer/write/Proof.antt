@@ -2,7 +2,7 @@
 -- Assumes nothing.
 use Prim.Native.Nat.{ℕ, ◌+◌, ◌≤◌, ◌<◌, min}
 use mathlib.Core.List.{List}
-use mathlib.Core.Path.{◌≡◌, refl, sym, ap, subst, ◌∙◌}
+use mathlib.Core.Path.{◌≡◌, refl, subst}
 use native.Mathlib.Omega.{arith}
 use borrow.Author.Rules.{rules}
 use borrow.Author.Tests.{eq-eqb, ne_eqb}
@@ -11,21 +11,21 @@ use Rattle.bencode.specs.Value.{encode_string}
 use Rattle.ipc.specs.declared.keys.Class.{Class}
 use Rattle.ipc.specs.declared.writer.Given.{Given}
 use Rattle.ipc.specs.declared.writer.Written.{Written}
-use Rattle.ipc.specs.Header.{header_length, largest_payload}
+use Rattle.ipc.specs.Header.{largest_payload}
 use Rattle.ipc.specs.Keys.{key_text, class_of}
-use Rattle.ipc.specs.Writer.{encode_given, encode_tag, payload_of, message_fault, marked_fitted, marked_answer}
-use Rattle.ipc.proofs.writing.WriterLaws.{payload_length, leaves_refused, leaves_count, SizeOf, marked_length, told, told_refused, fault_told, Passes, fault_passes}
+use Rattle.ipc.specs.Writer.{encode_given, encode_tag, payload_of, fitted, message_fault, write_answer}
+use Rattle.ipc.proofs.writing.WriterLaws.{payload_length, frame_length, leaves_refused, leaves_same, leaves_count, SizeOf, length_refused, length_small, length_room}
 use Rattle.ipc.proofs.writer.write.Statement.{statement}
 use Rattle.ipc.proofs.writer.write.Tie as tie
 
 -- ---- the first refusal, whatever the length
-module _ (key : ℕ) (given : Given) (s : List ℕ) (tag marks room code : ℕ) (e : code ≡ message_fault key given s tag) where
-  refused : (code ≡ 0 → ⊥) → marked_answer key given s tag marks room ≡ Written.Refused code
-  unfolding marked_answer
+module _ (key : ℕ) (given : Given) (s : List ℕ) (tag room code : ℕ) (e : code ≡ message_fault key given s tag) where
+  refused : (code ≡ 0 → ⊥) → write_answer key given s tag room ≡ Written.Refused code
+  unfolding write_answer
   refused h = rw (← e, ne_eqb code 0 h) refl
 
-  passed : code ≡ 0 → marked_answer key given s tag marks room ≡ marked_fitted marks (payload_of key given s tag) room
-  unfolding marked_answer
+  passed : code ≡ 0 → write_answer key given s tag room ≡ fitted (payload_of key given s tag) room
+  unfolding write_answer
   passed h = rw (← e, eq-eqb code 0 h) refl
 
 -- ---- the length of a payload
@@ -55,10 +55,10 @@ bound c = let v : c.before.value-length.result ≤ largest_payload + 1 = omega (
 
 answer_is : (c : tie.Else1) →
     let a = c.before.before.before.before.args in
-    marked_answer a.key a.given a.s.now a.tag a.marks.0 (length a.out.now) ≡ marked_fitted a.marks.0 (payload_of a.key a.given a.s.now a.tag) (length a.out.now)
+    write_answer a.key a.given a.s.now a.tag (length a.out.now) ≡ fitted (payload_of a.key a.given a.s.now a.tag) (length a.out.now)
 answer_is c =
     let a = c.before.before.before.before.args in
-    passed a.key a.given a.s.now a.tag a.marks.0 (length a.out.now) c.before.message-fault.result c.before.message-fault.ensures c.if1.false
+    passed a.key a.given a.s.now a.tag (length a.out.now) c.before.message-fault.result c.before.message-fault.ensures c.if1.false
 
 message-fault-requires : tie.Need-message-fault-requires
 message-fault-requires c κs = search rules
@@ -66,7 +66,7 @@ message-fault-requires c κs = search rules
 returns : tie.Need-returns
 returns c =
     let a = c.before.before.before.before.args in
-    leaves_refused _ _ _ _ (refused a.key a.given a.s.now a.tag a.marks.0 (length a.out.now) c.before.message-fault.result c.before.message-fault.ensures c.if1.true)
+    leaves_refused _ _ _ _ (refused a.key a.given a.s.now a.tag (length a.out.now) c.before.message-fault.result c.before.message-fault.ensures c.if1.true)
 
 key-length-requires : tie.Need-key-length-requires
 key-length-requires c κs = search rules
@@ -92,32 +92,20 @@ add-size-3 c = record { fits = omega (arith, bound c) }
 cast-size : tie.Need-overflow-cast-size
 cast-size c = record { fits = omega (arith, bound c) }
 
-marked-fault-requires : tie.Need-marked-fault-requires
-marked-fault-requires c κs = search rules
-
--- the code's answer, and what no refusal says
-told_at : (c : tie.After-marked-fault) →
-    let a = c.before.before.before.before.before.before.before.before.before.args in
-    let p = payload_of a.key a.given a.s.now a.tag in
-    marked_fitted a.marks.0 p (length a.out.now) ≡ told (header_length + length p) c.marked-fault.result
-told_at c = fault_told _ _ _ _ c.marked-fault.result (sized_at c.before) c.marked-fault.ensures
-
-passes_at : (c : tie.After-marked-fault) → c.marked-fault.result ≡ 0 →
-    let a = c.before.before.before.before.before.before.before.before.before.args in
-    let k = c.before in
-    Passes a.marks.0 (k.before.before.before.key-length.result + k.before.value-length.result + k.tag_length_lem.result + 2) (length a.out.now)
-passes_at c e = fault_passes _ _ _ (sym c.marked-fault.ensures ∙ e)
+length-fault-requires : tie.Need-length-fault-requires
+length-fault-requires c κs = search rules
 
 returns-2 : tie.Need-returns-2
-returns-2 c = leaves_refused _ _ _ _ (answer_is c.before.before.before.before.before.before ∙ told_at c.before ∙ told_refused _ _ c.if2.true)
+returns-2 c = leaves_same (answer_is c.before.before.before.before.before.before) (length_refused _ _ _ c.before.length-fault.result (sized_at c.before.before) c.before.length-fault.ensures c.if2.true)
 
 put-message-requires : tie.Need-put-message-requires
 put-message-requires c κs =
     let a = c.before.before.before.before.before.before.before.before.before.before.before.args in
     let p = payload_of a.key a.given a.s.now a.tag in
     let z = sized_at c.before.before.before in
-    let f = passes_at c.before.before c.before.if2.false in
-    (z.is f.small, omega (arith, z.is f.small, f.fits, marked_length a.marks.0 p))
+    let small = length_small p a.out.now _ c.before.before.length-fault.result z c.before.before.length-fault.ensures c.before.if2.false in
+    let room = length_room p a.out.now _ c.before.before.length-fault.result z c.before.before.length-fault.ensures c.before.if2.false in
+    (z.is small, omega (arith, z.is small, room, frame_length p))
 
 same_length : tie.Need-same-length
 same_length c = search rules
@@ -126,14 +114,10 @@ returns-3 : tie.Need-returns-3
 returns-3 c =
     let a = c.before.before.before.before.before.before.before.before.before.before.before.before.before.before.args in
     let p = payload_of a.key a.given a.s.now a.tag in
-    let e = c.before.before.before.before.before in
-    let z = sized_at e.before in
-    let f = passes_at e c.before.before.before.before.if2.false in
-    let long = marked_length a.marks.0 p in
-    leaves_count _ _ _
-    (answer_is e.before.before.before.before.before ∙ told_at e ∙ ap (told (header_length + length p)) c.before.before.before.before.if2.false ∙ ap Written.Count (sym long))
-    (omega (arith, long, f.fits, z.is f.small))
-    c.before.before.put-message.ensures
+    let z = sized_at c.before.before.before.before.before.before in
+    let small = length_small p a.out.now _ c.before.before.before.before.before.length-fault.result z c.before.before.before.before.before.length-fault.ensures c.before.before.before.before.if2.false in
+    let room = length_room p a.out.now _ c.before.before.before.before.before.length-fault.result z c.before.before.before.before.before.length-fault.ensures c.before.before.before.before.if2.false in
+    leaves_same (answer_is c.before.before.before.before.before.before.before.before.before.before) (leaves_count _ _ (omega (arith, small, z.is small)) (omega (arith, room, z.is small)) c.before.before.put-message.ensures)
 
 pub write_spec : {M : Type 1} → statement M
 write_spec =
@@ -149,7 +133,7 @@ write_spec =
     add-size-2
     add-size-3
     cast-size
-    marked-fault-requires
+    length-fault-requires
     returns-2
     put-message-requires
     same_length

@@ -1,10 +1,10 @@
--- `frame_cases::written::print_handed` is safe.
+-- `frame_cases::written::print_message` is safe.
 -- Assumes nothing.
 use native.Mathlib.Omega.{arith}
 use lib.ListN.{length-take}
 use borrow.Author.Rules.{rules}
-use Rattle.frame_cases.proofs.written.print_handed.Statement.{statement}
-use Rattle.frame_cases.proofs.written.print_handed.Tie as tie
+use Rattle.frame_cases.proofs.written.print_message.Statement.{statement}
+use Rattle.frame_cases.proofs.written.print_message.Tie as tie
 
 byte-at-requires : tie.Need-byte-at-requires
 byte-at-requires c κs = search rules
@@ -57,8 +57,8 @@ same_length c = search rules
 returns-2 : tie.Need-returns-2
 returns-2 c = search rules
 
-pub print_handed_spec : {M : Type 1} → statement M
-print_handed_spec =
+pub print_message_spec : {M : Type 1} → statement M
+print_message_spec =
     tie.close
     (tie.spec
     byte-at-requires
