@@ -3,7 +3,7 @@ ghost use Rattle.std.specs.Prelude.{◌≡◌};
 ghost use Rattle.bencode.specs.Depth.{nested};
 
 // In how many lists and dictionaries a value stands, at most LARGEST.
-#[derive(Drop)]
+#[derive(Clone, Copy)]
 pub struct Depth(u8);
 
 // The depth inside one more list or dictionary, or that this is too deep.

@@ -67,8 +67,8 @@ fn first_value(s: &[u8], profile: Profile) -> Walk
 
 // Walks a payload, which is one value and nothing after it.
 pub fn payload(s: &[u8], profile: Profile) -> Walk
-    ensures value { result ≡ payload_at profile s.now }
-    ensures result_value { (code_of result ≡ payload_code profile s.now) × (offset_of result ≡ payload_offset profile s.now) }
+    ensures answer { result ≡ payload_at profile s.now }
+    ensures numbers { (code_of result ≡ payload_code profile s.now) × (offset_of result ≡ payload_offset profile s.now) }
 {
     whole(s, first_value(s, profile))
 }

@@ -12,7 +12,7 @@ use octets::less;
 
 // What a walk keeps of a dictionary's earlier keys: the offset of the first entry, where the greatest key starts and ends,
 // and the marks of all.
-#[derive(Drop)]
+#[derive(Clone, Copy)]
 pub struct Seen {
     pub first: usize,
     pub start: usize,

@@ -1,5 +1,7 @@
 // Bencoded payloads: where a value ends or which byte is at fault, looking into a payload, and writing integers and strings.
 // Every function takes any bytes, also a payload that was not walked, and any offset; what has no room is not stored.
+#![tactic(auto)]
+
 mod classes;
 mod depth;
 mod entry;

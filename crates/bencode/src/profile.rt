@@ -1,6 +1,6 @@
 // Which keys a dictionary may have; in both profiles they are text. Every walk is handed its profile, and only the key rule looks
 // at it.
-#[derive(Drop)]
+#[derive(Clone, Copy)]
 pub enum Profile {
     // Keys in any order, none twice.
     Loose,

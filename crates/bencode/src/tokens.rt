@@ -20,7 +20,7 @@ use super::text_keys::ill_formed_key;
 pub const LEVELS: usize = Depth::LARGEST as usize;
 
 // A level: its mark, which is the byte that opened it, and what is kept of its keys where it is a dictionary.
-#[derive(Drop)]
+#[derive(Clone, Copy)]
 pub struct Level {
     pub mark: u8,
     pub seen: Seen,

@@ -142,8 +142,8 @@ pub fn whole(s: &[u8], walk: Walk) -> Walk
 
 // Walks a payload, which is one value and nothing after it.
 pub fn payload(s: &[u8], profile: Profile) -> Walk
-    ensures value { result ≡ payload_at profile s.now }
-    ensures result_value { (code_of result ≡ payload_code profile s.now) × (offset_of result ≡ payload_offset profile s.now) }
+    ensures answer { result ≡ payload_at profile s.now }
+    ensures numbers { (code_of result ≡ payload_code profile s.now) × (offset_of result ≡ payload_offset profile s.now) }
 {
     let table = classes();
     whole(s, value(s, 0, Depth::outermost(), profile, &table))

@@ -32,8 +32,8 @@ impl PayloadLength {
     pub const PROTOCOL: u32 = 2147483640;
 
     pub fn new(n: u32) -> Sized
-        ensures value { result ≡ sized n }
-        ensures result_value { size_code result ≡ length_code n }
+        ensures answer { result ≡ sized n }
+        ensures numbers { size_code result ≡ length_code n }
     {
         if PayloadLength::PROTOCOL < n {
             return Sized::OverProtocol;
@@ -84,8 +84,8 @@ fn hex_value(c: u8) -> u32
 
 // Reads the 8 hex digits at the front.
 pub fn read_header(s: &[u8]) -> Header
-    ensures value { result ≡ read_header s.now }
-    ensures result_value { (header_code result ≡ header_code (read_header s.now)) × (header_offset result ≡ header_offset (read_header s.now)) }
+    ensures answer { result ≡ read_header s.now }
+    ensures numbers { (header_code result ≡ header_code (read_header s.now)) × (header_offset result ≡ header_offset (read_header s.now)) }
 {
     let mut value: u32 = 0;
     let mut i: usize = 0;

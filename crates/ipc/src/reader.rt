@@ -61,16 +61,16 @@ fn read_by(s: &[u8], profile: Profile) -> Reading
 
 // Reads the frame at the front of the bytes. Bytes after it are left for the next read.
 pub fn read(s: &[u8]) -> Reading
-    ensures value { result ≡ frame_reading s.now }
-    ensures result_value { answer_of result ≡ read_frame s.now }
+    ensures answer { result ≡ frame_reading s.now }
+    ensures numbers { answer_of result ≡ read_frame s.now }
 {
     read_by(s, Profile::Loose)
 }
 
 // The same in the strict profile: a key that does not rise is refused by 11.
 pub fn read_strict(s: &[u8]) -> Reading
-    ensures value { result ≡ reading_by Profile.Strict s.now }
-    ensures result_value { answer_of result ≡ read_frame_by Profile.Strict s.now }
+    ensures answer { result ≡ reading_by Profile.Strict s.now }
+    ensures numbers { answer_of result ≡ read_frame_by Profile.Strict s.now }
 {
     read_by(s, Profile::Strict)
 }

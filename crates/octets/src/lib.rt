@@ -1,5 +1,7 @@
 // Bytes by offset, byte strings compared, decimal digits read and written, and bytes put into a lent buffer.
 // Every function here takes any bytes and any offset: what has no room is not stored.
+#![tactic(auto)]
+
 mod bytes;
 mod decimal;
 mod numerals;

@@ -60,6 +60,7 @@ put_digit out o k d p r n h e f g =
     rw (q, add-one o)
 
 pub pow_down : (k : ℕ) → 0 < k → 10 ^ k ≡ 10 * 10 ^ (k - 1)
+pow_down zero h = elim h [ ]
 pow_down (suc k) h = let e : suc k - 1 ≡ k = omega arith in rw e (pow-succ' 10 k)
 
 -- the digits of a number from its first ones and the k lowest

@@ -1,0 +1,21 @@
+-- `bencode::scalar_end` meets its contract.
+-- Assumes nothing.
+use mathlib.Core.Path.{refl, sym, ◌∙◌}
+use borrow.Author.Tests.{eq-eqb, ne_eqb}
+use Rattle.octets.specs.Bytes.{byte_at}
+use Rattle.bencode.specs.Scalar.{scalar_at}
+use Rattle.bencode.proofs.scalar.scalar_end.Goals as goal
+
+pub returns-then-byte_at-eq105 : goal.returns-then-byte_at-eq105
+unfolding scalar_at
+returns-then-byte_at-eq105 c =
+    let a = c.args in
+    let s = a.s.now in
+    c.integer_end.ensures ∙ sym (rw (eq-eqb (byte_at s a.at) 105 (sym c.byte_at.ensures ∙ c.if-byte_at-eq105.true)) refl)
+
+pub returns : goal.returns
+unfolding scalar_at
+returns c =
+    let a = c.args in
+    let s = a.s.now in
+    c.string_end.ensures ∙ sym (rw (ne_eqb (byte_at s a.at) 105 (λ e. c.if-byte_at-eq105.false (c.byte_at.ensures ∙ e))) refl)
