@@ -6,7 +6,6 @@ usage: tools/port/answers.py NAMES CRATE_FOLDER [FUNCTION_FOLDER ..]
 NAMES is the folder that names.sh fills in the crate's folder. Answers that say no more than
 `search rules`, `omega arith` or `tt` are left out, since the check finds them alone. What it cannot turn it says.
 """
-import glob
 import json
 import os
 import re
@@ -28,7 +27,7 @@ PLAIN = {"search rules", "omega arith", "tt", "search needs"}
 
 def norm(name):
     """One spelling for a name of Rattle's own, old or respelled."""
-    name = name.replace("_", "-").lower()
+    name = name.strip("«»").replace("_", "-").lower()
     if name.endswith("-lem"):
         name = name[:-4]
     return name
@@ -41,17 +40,6 @@ def without_ways_up(text):
         if not m:
             return text
         text = text[:m.start()] + re.sub(r"(?<![\w.'-])" + re.escape(m.group(1)) + r"(?![\w'-])", "c", text[m.end():])
-
-
-def mutable(callee):
-    """The names of a function's `&mut` parameters, in their order."""
-    crate, *modules, name = callee.split("::")
-    for folder in (os.path.join("..", crate, "src"), os.path.join("crates", crate, "src")):
-        for path in glob.glob(os.path.join(folder, "**", "*.rt"), recursive=True):
-            m = re.search(r"\bfn " + re.escape(name) + r"\b[^(]*\((.*?)\)\s*(?:->|\n|\{)", open(path, encoding="utf-8").read(), re.S)
-            if m:
-                return [n for n, t in re.findall(r"(\w+)\s*:\s*(&(?:'\w+ )?mut )", m.group(1))] + (["self"] if "&mut self" in m.group(1) else [])
-    return []
 
 
 def blocks(text):
@@ -87,15 +75,29 @@ class Function:
             self.steps.setdefault(norm(step), new)
         # the parts of an arm's pattern: by step and by the way to the part
         self.parts = {}
+        self.owns = {}
+        self.opens = False
+        self.here = None
         self.callees = {}
         for place, arm in zip(names["places"], names["arms"]):
             if arm:
                 for new, step, way in arm[2]:
                     if way[:1] == ["given"]:
                         self.parts.setdefault(norm(step), (arm[0], {}))[1][".".join(way[1:])] = new
+                    elif not way:
+                        self.owns.setdefault(norm(step), {})[arm[0]] = new
             if place[3]:
                 self.callees[place[2][1]] = place[3]
         self.goals = {norm(o): n for o, n in names["needs"]}
+        # the arms that each goal stands in
+        above = {p[0]: p for p in names["places"]}
+        self.inside = {}
+        for (old, new), (place, _) in zip(names["needs"], names["asked_at"]):
+            arms = []
+            while place in above:
+                arms.append(above[place][2][1])
+                place = above[place][1]
+            self.inside[new] = arms
         self.said = []
         self.helpers = {}
         self.order = []
@@ -125,6 +127,16 @@ class Function:
                     if way in names:
                         return ".".join(["c", arm, names[way]] + tail[n:])
                 self.say(f"no part {'.'.join(parts)}")
+        if head in self.owns:
+            arms = [a for a in self.inside.get(self.here, []) if a in self.owns[head]]
+            if not arms and len(self.owns[head]) == 1:
+                arms = list(self.owns[head])
+            if arms:
+                way = ".".join(["c", arms[0], self.owns[head][arms[0]]] + parts[1:])
+                if re.match(r"keys\d*$", parts[-1]):
+                    self.opens = True
+                    way = f"(opened {way})"
+                return way
         new = self.steps.get(head)
         if new is None and head + "s" in self.steps:
             new = self.steps[head + "s"]
@@ -137,9 +149,12 @@ class Function:
             return "c." + ".".join(parts)
         tail = parts[1:]
         if tail[:1] == ["new"] and len(tail) > 1 and tail[1].isdigit():
-            names = mutable(self.callees.get(new) or "")
-            if int(tail[1]) < len(names):
-                tail[1] = names[int(tail[1])]
+            names = self.names["params"].get(self.callees.get(new), [])
+            n = 1
+            while n < len(tail) and tail[n] == "1":
+                n += 1
+            if n - 1 < len(names) and tail[n:n + 1] == ["0"]:
+                tail[1:n + 1] = [names[n - 1]]
             else:
                 self.say(f"new of {new}")
         if tail[:1] == ["ensures"] and self.callees.get(new) in CLAUSES and len(tail) > 1 and tail[1] in "01":
@@ -151,16 +166,20 @@ class Function:
         i = next(i for i, l in enumerate(block) if not l.startswith("--"))
         unfold = [l for l in block[i:] if l.strip().startswith("unfolding ")]
         text = without_ways_up("\n".join(l for l in block[i:] if not l.strip().startswith("unfolding ")))
-        m = re.match(r"^(\S+) :\s*\(c : tie\.[^)]*\)\s*→\s*", text)
+        m = re.match(r"^(?:abbrev )?(\S+) :\s*(?:\(c : tie\.[^)]*\)|tie\.\S+)\s*→\s*", text)
         name = m.group(1)
         rest = text[m.end():]
-        k = re.search(r"^" + re.escape(name) + r" c\b(.*?)\s*=(?=\s)", rest, re.M)
+        k = re.search(r"^" + re.escape(name) + r" (\S+)(.*?)\s*=(?=\s)", rest, re.M)
         if not k or len(re.findall(r"^" + re.escape(name) + r" ", rest, re.M)) != 1:
             self.say(f"cannot write out {name}")
             return False
         typ = rest[:k.start()].strip()
-        args = k.group(1).split()
+        args = k.group(2).split()
         body = rest[k.end():].strip()
+        if k.group(1) != "c":
+            body = re.sub(r"(?<![\w.'-])" + re.escape(k.group(1)) + r"(?![\w'-])", "c", body)
+        if body.startswith("let ") and not args:
+            body = "(" + body + ")"
         if args:
             body = "λ " + " ".join(args) + ". " + body
         self.helpers[name] = (typ, body, unfold)
@@ -236,6 +255,9 @@ class Function:
         params = m.group(1).split()
         want = [("initial." if c else "") + f for f, c in zip(fields, changed)] + [f for f, c in zip(fields, changed) if c]
         if len(params) != len(want):
+            # a constant that was passed has no variable now
+            params = [p for p in params if not re.match(r"t\d+$", p)]
+        if len(params) != len(want):
             self.say(f"{loop}: parameters {params} for {want}")
             return None
         table = {p: "l." + w for p, w in zip(params, want)}
@@ -294,13 +316,15 @@ class Function:
                 if lets:
                     head, said = re.match(r"^(\S+ \S+) =\s*(.*)$", whole, re.S).groups()
                     whole = head + " =\n" + lets + "    " + said
-                    unfold = unfold + more
+                    opened = [n for u in unfold + more for n in u.split()[1:]]
+                    unfold = ["unfolding " + " ".join(dict.fromkeys(opened))] if opened else []
                 said = whole.split("=", 1)[1].strip() if "=" in whole else ""
                 if said in PLAIN and not unfold:
                     continue
+                self.here = new
                 answers.append(comments + [f"pub {new} : goal.{new}"] + unfold + [self.body(whole)])
                 continue
-            if m and re.match(r"\(c : tie\.", m.group(2)) and self.helper(b):
+            if m and re.match(r"(?:\(c : )?tie\.", m.group(2)) and self.helper(b):
                 continue
             whole = self.body("\n".join(b))
             helpers.append([whole])
@@ -310,6 +334,8 @@ class Function:
         base = f"Rattle.{os.path.basename(os.path.abspath(self.crate))}.proofs.{module}"
         if invariants:
             self.write("Invariants.antt", uses + [f"use {base}.Given as goal"], [[]] + invariants)
+        if self.opens:
+            uses.append("use borrow.Enum.Refused.{opened}")
         if any("goal." in "\n".join(a) for a in answers):
             self.write("Answers.antt", head_comments + uses + [f"use {base}.Goals as goal"], [[]] + answers)
         os.remove(proof)
@@ -388,10 +414,12 @@ class Cycle(Function):
                 said = whole.split("=", 1)[1].strip() if "=" in whole else ""
                 if said in PLAIN and not unfold:
                     continue
+                fn.here = new[len(f) + 1:]
                 body = fn.body(whole)
                 # the measure is no part of `requires` now
                 body = re.sub(r"\(omega \(arith, c\.requires\.0\), c\.requires\.1\)", "(omega arith, c.requires)", body)
                 body = re.sub(r"omega \(arith, c\.requires\.0\)", "omega arith", body)
+                body = re.sub(r"omega \(arith, c\.requires\.0, ", "omega (arith, ", body)
                 body = re.sub(r"c\.requires\.1(?![\w])", "c.requires", body)
                 answers.append(b[:i] + [f"pub {new} : goal.{new}"] + unfold + [body])
                 self.said += fn.said

@@ -5,9 +5,9 @@ use mathlib.Core.Path.{◌≡◌, refl, sym, ap, ◌∙◌}
 use mathlib.Core.Bool.{Bool, true, false, cond}
 use mathlib.Core.List.{List}
 use Rattle.octets.specs.Bytes.{same}
-use Rattle.bencode.specs.Value.{Value, Found, found, missing, lookup}
+use Rattle.bencode.specs.Value.{Found, found, missing, lookup}
 use Rattle.octets.proofs.sequences.Order.{clash, same_eq, same_refl}
-use Rattle.canonical.specs.Same.{SameValue, same_list, same_dictionary, SameValues, more, SameFound, neither, both}
+use Rattle.canonical.specs.Same.{same_list, same_dictionary, more, SameFound, neither, both}
 use Rattle.canonical.specs.Demands.{SameIsEquivalence, EntriesExchange, ItemsStay}
 use Rattle.canonical.proofs.values.SameLaws.{alike_same, same_alike}
 

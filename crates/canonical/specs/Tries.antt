@@ -1,6 +1,6 @@
 -- Statements, by computing: payloads and what the sorter writes for them, and its answers (document 02, request 06).
 -- Assumes nothing.
-use Rattle.std.specs.Prelude.{ℕ, ◌≡◌, List, [], ◌∷◌, map}
+use Rattle.std.specs.Prelude.{◌≡◌, List, [], ◌∷◌, map}
 use Prim.Native.String.{String}
 use Rattle.octets.specs.Ascii.{ascii}
 use Rattle.bencode.specs.Fault.{fault}

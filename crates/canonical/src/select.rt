@@ -8,7 +8,7 @@ use bencode::{Text, skip_value, string};
 use octets::less;
 
 // An entry of a dictionary, by its offset and by where its key starts and ends; or none.
-#[derive(Drop)]
+#[derive(Clone, Copy)]
 pub enum Pick {
     Entry { at: usize, start: usize, end: usize },
     None,

@@ -24,7 +24,7 @@ pub enum Checked {
 }
 
 // What the items of a list are.
-#[derive(Drop)]
+#[derive(Clone, Copy)]
 pub enum Items {
     Texts,
     Ids,

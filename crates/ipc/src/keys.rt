@@ -7,7 +7,7 @@ ghost use Rattle.ipc.specs.Keys.{key_count, row_of, row_at, listed_at, key_text,
 use bencode::put_string;
 
 // The formats of values. A key that is not listed takes any value.
-#[derive(Drop)]
+#[derive(Clone, Copy)]
 pub enum Class {
     Unlisted,
     Boolean,
@@ -21,7 +21,7 @@ pub enum Class {
 }
 
 // A listed key: its bytes and how many they are, the format of its value, and whether it is written.
-#[derive(Drop)]
+#[derive(Clone, Copy)]
 pub struct KeyRow {
     pub text: [u8; 14],
     pub length: usize,

@@ -1,5 +1,7 @@
 // Frames of Transmission's IPC protocol, version 2: eight hex digits of length, then a bencoded message or handshake.
 // Every function takes any bytes and numbers: what is bad is refused by the documents' numbers, and a refusal writes no byte.
+#![tactic(auto)]
+
 mod check;
 mod format;
 mod handshake;

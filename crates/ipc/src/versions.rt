@@ -3,7 +3,7 @@ ghost use Rattle.std.specs.Prelude.{◌≡◌, min, max};
 ghost use Rattle.ipc.specs.Versions.{range_of, largest_common, agreed_version};
 
 // A range of versions, from the smallest to the largest.
-#[derive(Drop)]
+#[derive(Clone, Copy)]
 pub struct Versions {
     min: u32,
     max: u32,

@@ -12,7 +12,7 @@ use bencode::{put_integer, put_string};
 use octets::put_bytes;
 
 // A value handed in: nothing, an integer, or bytes that stand beside it.
-#[derive(Drop)]
+#[derive(Clone, Copy)]
 pub enum Given {
     Nothing,
     Integer(i64),

@@ -10,7 +10,6 @@ use lib.ListN.{length, length-append, length-drop}
 use Rattle.octets.specs.Bytes.{byte_at, slice, less, Begins}
 use Rattle.octets.specs.Numerals.{decimal}
 use Rattle.bencode.specs.declared.profile.Profile.{Profile}
-use Rattle.bencode.specs.Skip.{skip_value}
 use Rattle.bencode.specs.Value.{Value, integer, string, list, dictionary, Values, no_value, value, Entries, no_entry, entry, encode_string, encode, encode_all, encode_entries, All, AllEntries, WellFormed}
 use Rattle.octets.proofs.sequences.Order.{less_asym}
 use Rattle.octets.proofs.sequences.BeginsLaws.{begins_left, begins_right, begins_head, slice_begins}

@@ -1,0 +1,100 @@
+-- `ipc::writer::write` answers as its definition says, and writes the frame or nothing.
+-- Assumes nothing.
+use Prim.Native.Nat.{ℕ, ◌+◌, ◌≤◌, ◌<◌, min}
+use mathlib.Core.List.{List}
+use mathlib.Core.Path.{◌≡◌, refl, subst}
+use native.Mathlib.Omega.{arith}
+use borrow.Author.Tests.{eq-eqb, ne_eqb}
+use lib.ListN.{length}
+use Rattle.bencode.specs.Value.{encode_string}
+use Rattle.ipc.specs.declared.keys.Class.{Class}
+use Rattle.ipc.specs.declared.writer.Given.{Given}
+use Rattle.ipc.specs.declared.writer.Written.{Written}
+use Rattle.ipc.specs.Header.{largest_payload}
+use Rattle.ipc.specs.Keys.{key_text, class_of}
+use Rattle.ipc.specs.Writer.{encode_given, encode_tag, payload_of, fitted, message_fault, write_answer}
+use Rattle.ipc.proofs.writing.WriterLaws.{payload_length, frame_length, leaves_refused, leaves_same, leaves_count, SizeOf, length_refused, length_small, length_room}
+use Rattle.ipc.proofs.writer.write.Goals as goal
+
+-- ---- the first refusal, whatever the length
+module _ (key : ℕ) (given : Given) (s : List ℕ) (tag room code : ℕ) (e : code ≡ message_fault key given s tag) where
+  refused : (code ≡ 0 → ⊥) → write_answer key given s tag room ≡ Written.Refused code
+  unfolding write_answer
+  refused h = rw (← e, ne_eqb code 0 h) refl
+
+  passed : code ≡ 0 → write_answer key given s tag room ≡ fitted (payload_of key given s tag) room
+  unfolding write_answer
+  passed h = rw (← e, eq-eqb code 0 h) refl
+
+-- ---- the length of a payload
+-- the sum of the parts' lengths, the value's cut one over the largest payload
+module _ (key : ℕ) (given : Given) (s : List ℕ) (tag k v t : ℕ) (class : Class) (kind : class ≡ class_of key)
+    (k-is : k ≡ length (encode_string (key_text key))) (v-is : v ≡ min (length (encode_given class given s)) (largest_payload + 1)) (t-is : t ≡ length (encode_tag tag)) where
+  value_is : v ≡ min (length (encode_given (class_of key) given s)) (largest_payload + 1)
+  value_is = subst (λ (c : Class). v ≡ min (length (encode_given c given s)) (largest_payload + 1)) kind v-is
+
+  sized : SizeOf (k + v + t + 2) (payload_of key given s tag)
+  sized = record {
+    over = λ (h : largest_payload < k + v + t + 2). omega (arith, h, k-is, value_is, t-is, payload_length key given s tag);
+    is = λ (h : k + v + t + 2 ≤ largest_payload). omega (arith, h, k-is, value_is, t-is, payload_length key given s tag);
+  }
+
+pub returns-then-code-ne0 : goal.returns-then-code-ne0
+returns-then-code-ne0 c =
+    let a = c.args in
+    leaves_refused _ _ _ _ (refused a.key a.given a.s.now a.tag (length a.out.now) c.message_fault-code.result c.message_fault-code.ensures c.if-code-ne0.true)
+
+pub overflow_add-size : goal.overflow_add-size
+overflow_add-size c = let v : c.value_length.result ≤ largest_payload + 1 = omega (arith, c.value_length.ensures) in record { fits = omega (arith, v, c.key_length.ensures.1) }
+
+pub overflow_add-size-2 : goal.overflow_add-size-2
+overflow_add-size-2 c =
+    let bound : c.key_length.result + c.value_length.result + c.tag_length.result + 2 < 100000 = (let v : c.value_length.result ≤ largest_payload + 1 = omega (arith, c.value_length.ensures) in omega (arith, v, c.key_length.ensures.1, c.tag_length.ensures.1)) in
+    record { fits = omega (arith, bound) }
+
+pub overflow_add-size-3 : goal.overflow_add-size-3
+overflow_add-size-3 c =
+    let bound : c.key_length.result + c.value_length.result + c.tag_length.result + 2 < 100000 = (let v : c.value_length.result ≤ largest_payload + 1 = omega (arith, c.value_length.ensures) in omega (arith, v, c.key_length.ensures.1, c.tag_length.ensures.1)) in
+    record { fits = omega (arith, bound) }
+
+pub overflow_cast-size : goal.overflow_cast-size
+overflow_cast-size c =
+    let bound : c.key_length.result + c.value_length.result + c.tag_length.result + 2 < 100000 = (let v : c.value_length.result ≤ largest_payload + 1 = omega (arith, c.value_length.ensures) in omega (arith, v, c.key_length.ensures.1, c.tag_length.ensures.1)) in
+    record { fits = omega (arith, bound) }
+
+pub returns-then-code-ne0-2 : goal.returns-then-code-ne0-2
+returns-then-code-ne0-2 c =
+    let sized_at : let a = c.args in
+    SizeOf (c.key_length.result + c.value_length.result + c.tag_length.result + 2) (payload_of a.key a.given a.s.now a.tag) = (let a = c.args in
+    sized a.key a.given a.s.now a.tag c.key_length.result c.value_length.result c.tag_length.result c.class_of.result c.class_of.ensures c.key_length.ensures.0 c.value_length.ensures c.tag_length.ensures.0) in
+    let answer_is : let a = c.args in
+    write_answer a.key a.given a.s.now a.tag (length a.out.now) ≡ fitted (payload_of a.key a.given a.s.now a.tag) (length a.out.now) = (let a = c.args in
+    passed a.key a.given a.s.now a.tag (length a.out.now) c.message_fault-code.result c.message_fault-code.ensures c.if-code-ne0.false) in
+    leaves_same answer_is (length_refused _ _ _ c.length_fault-code.result sized_at c.length_fault-code.ensures c.if-code-ne0-2.true)
+
+pub put_message-requires : goal.put_message-requires
+put_message-requires c =
+    let sized_at : let a = c.args in
+    SizeOf (c.key_length.result + c.value_length.result + c.tag_length.result + 2) (payload_of a.key a.given a.s.now a.tag) = (let a = c.args in
+    sized a.key a.given a.s.now a.tag c.key_length.result c.value_length.result c.tag_length.result c.class_of.result c.class_of.ensures c.key_length.ensures.0 c.value_length.ensures c.tag_length.ensures.0) in
+    let a = c.args in
+    let p = payload_of a.key a.given a.s.now a.tag in
+    let z = sized_at in
+    let small = length_small p a.out.now _ c.length_fault-code.result z c.length_fault-code.ensures c.if-code-ne0-2.false in
+    let room = length_room p a.out.now _ c.length_fault-code.result z c.length_fault-code.ensures c.if-code-ne0-2.false in
+    (z.is small, omega (arith, z.is small, room, frame_length p))
+
+pub returns : goal.returns
+returns c =
+    let sized_at : let a = c.args in
+    SizeOf (c.key_length.result + c.value_length.result + c.tag_length.result + 2) (payload_of a.key a.given a.s.now a.tag) = (let a = c.args in
+    sized a.key a.given a.s.now a.tag c.key_length.result c.value_length.result c.tag_length.result c.class_of.result c.class_of.ensures c.key_length.ensures.0 c.value_length.ensures c.tag_length.ensures.0) in
+    let answer_is : let a = c.args in
+    write_answer a.key a.given a.s.now a.tag (length a.out.now) ≡ fitted (payload_of a.key a.given a.s.now a.tag) (length a.out.now) = (let a = c.args in
+    passed a.key a.given a.s.now a.tag (length a.out.now) c.message_fault-code.result c.message_fault-code.ensures c.if-code-ne0.false) in
+    let a = c.args in
+    let p = payload_of a.key a.given a.s.now a.tag in
+    let z = sized_at in
+    let small = length_small p a.out.now _ c.length_fault-code.result z c.length_fault-code.ensures c.if-code-ne0-2.false in
+    let room = length_room p a.out.now _ c.length_fault-code.result z c.length_fault-code.ensures c.if-code-ne0-2.false in
+    leaves_same answer_is (leaves_count _ _ (omega (arith, small, z.is small)) (omega (arith, room, z.is small)) c.put_message.ensures)
