@@ -88,6 +88,9 @@ class Function:
                         self.owns.setdefault(norm(step), {})[arm[0]] = new
             if place[3]:
                 self.callees[place[2][1]] = place[3]
+        for old, new in names["args"]:
+            if old.startswith(".") and " ." not in old:
+                self.steps.setdefault(norm(old[1:]), new[1:])
         self.goals = {norm(o): n for o, n in names["needs"]}
         # the arms that each goal stands in
         above = {p[0]: p for p in names["places"]}
@@ -116,6 +119,10 @@ class Function:
         head = norm(parts[0])
         if head.startswith("isstore"):
             head = head[2:]
+        if head in ("args", "ranges"):
+            for old, new in self.names["args"]:
+                if old.startswith(f".{head} .") and parts[1:2] == [old.split(" .")[1]]:
+                    parts[1] = new.split(" .")[1]
         if head in ("args", "requires", "ranges", "type-inv", "auto", "well-formed"):
             return "c." + ".".join([parts[0].replace("-", "_")] + parts[1:])
         for key in (head, "enum-known-" + head):

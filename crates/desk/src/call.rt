@@ -1,5 +1,5 @@
 // A call on the desk: a routine request (a down limit, an up limit, a start or a stop of one transfer), a raise or a clear.
-#[derive(Drop)]
+#[derive(Clone, Copy)]
 pub enum Call {
     Down(i32),
     Up(i32),

@@ -1,6 +1,8 @@
 // The override desk of document 01: it gives one transfer the whole link, and restores what is desired when that is over.
 // Every function takes any record and any buffer: what is bad is refused by document 01's numbers, and a refusal changes
 // nothing.
+#![tactic(auto)]
+
 mod call;
 mod calls;
 mod change;

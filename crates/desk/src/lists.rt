@@ -7,7 +7,7 @@ use super::watch::{PLACES, Watch};
 use ipc::{OptionalId, TorrentId};
 
 // Which of the watched transfers a start or stop lists: all but one, those desired running, or those desired stopped.
-#[derive(Drop)]
+#[derive(Clone, Copy)]
 pub enum Pick {
     But(u32),
     Running,

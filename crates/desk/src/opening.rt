@@ -64,7 +64,8 @@ fn copied(list: &[Watch]) -> [Watch; PLACES]
     let mut places = no_places();
     let mut i: usize = 0;
     while i < n {
-        places = with_watch(places, i, list[i]);
+        let next = with_watch(places, i, list[i]);
+        places = next;
         i += 1;
     }
     places

@@ -7,7 +7,7 @@ use super::watch::{PLACES, Watch};
 
 // What is desired of the daemon: both limits and the watched transfers, of which `count` places are used. `override_id` is the
 // transfer that an override gives the link to, and 0 where none stands.
-#[derive(Drop)]
+#[derive(Clone, Copy)]
 pub struct Desk {
     pub opened: bool,
     pub count: usize,

@@ -1,7 +1,7 @@
 // The watch list's records.
 
 // A watched transfer: its torrent ID and whether it is desired running.
-#[derive(Drop)]
+#[derive(Clone, Copy)]
 pub struct Watch {
     pub id: u32,
     pub running: bool,

@@ -1,0 +1,53 @@
+-- `desk::calls::perform` meets its contract: a refusal, a deferred request, or its frames.
+-- Assumes nothing.
+use mathlib.Core.Path.{◌≡◌, refl, sym, ap, ◌∙◌}
+use mathlib.Core.List.{[]}
+use native.Mathlib.Omega.{arith}
+use lib.ListN.{length}
+use Rattle.desk.specs.declared.record.Desk.{Desk}
+use Rattle.desk.specs.Command.{frames_of}
+use Rattle.desk.specs.Refusal.{call_fault}
+use Rattle.desk.specs.Plan.{desk_after, commands_of}
+use Rattle.desk.specs.Calls.{refused, returned}
+use Rattle.desk.proofs.acting.CallLaws.{nothing_sent, returned_as, outcome_refused, outcome_deferred, outcome_sends}
+use Rattle.desk.proofs.acting.PlanLaws.{commands_length}
+use Rattle.desk.proofs.writing.PutFrames.{Front, front_wrote, front_count}
+use Rattle.desk.proofs.acting.RefusalLaws.{accepted_call}
+use Rattle.desk.proofs.calls.perform.Goals as goal
+
+pub returns-then-code-ne0 : goal.returns-then-code-ne0
+returns-then-code-ne0 c = nothing_sent (refused (call_fault c.args.call c.args.d) c.args.d) (outcome_refused c.args.call (length c.args.out.now) c.args.d (λ e. c.if-code-ne0.true (c.call_fault-code.ensures ∙ e))) refl (rw c.call_fault-code.ensures at c.refuse.ensures)
+
+pub desk_after-next-requires : goal.desk_after-next-requires
+desk_after-next-requires c =
+    let passed : call_fault c.args.call c.args.d ≡ 0 = sym c.call_fault-code.ensures ∙ c.if-code-ne0.false in
+    passed
+
+pub returns-then-is_deferred : goal.returns-then-is_deferred
+unfolding returned
+returns-then-is_deferred c =
+    let passed : call_fault c.args.call c.args.d ≡ 0 = sym c.call_fault-code.ensures ∙ c.if-code-ne0.false in
+    nothing_sent (record { code = 1; desk = desk_after c.args.call c.args.d; sent = [] }) (outcome_deferred c.args.call (length c.args.out.now) c.args.d passed (sym c.is_deferred.ensures ∙ c.if-is_deferred.true)) refl (ap (λ (x : Desk). record { code = 1; count = 0; desk = x }) c.desk_after-next.ensures)
+
+pub put_commands-n-requires : goal.put_commands-n-requires
+put_commands-n-requires c =
+    let passed : call_fault c.args.call c.args.d ≡ 0 = sym c.call_fault-code.ensures ∙ c.if-code-ne0.false in
+    (passed, omega arith)
+
+pub slice_bounds-frames-end : goal.slice_bounds-frames-end
+slice_bounds-frames-end c =
+    let passed : call_fault c.args.call c.args.d ≡ 0 = sym c.call_fault-code.ensures ∙ c.if-code-ne0.false in
+    let front : Front (frames_of (commands_of c.args.call c.args.d)) c.put_commands-n.new.out c.put_commands-n.result = front_wrote (commands_length c.args.call c.args.d (accepted_call c.args.call c.args.d passed)) c.put_commands-n.ensures in
+    front.inside
+
+pub slice_bounds-deliver-end : goal.slice_bounds-deliver-end
+slice_bounds-deliver-end c =
+    let passed : call_fault c.args.call c.args.d ≡ 0 = sym c.call_fault-code.ensures ∙ c.if-code-ne0.false in
+    let front : Front (frames_of (commands_of c.args.call c.args.d)) c.put_commands-n.new.out c.put_commands-n.result = front_wrote (commands_length c.args.call c.args.d (accepted_call c.args.call c.args.d passed)) c.put_commands-n.ensures in
+    front_count front
+
+pub returns : goal.returns
+returns c =
+    let passed : call_fault c.args.call c.args.d ≡ 0 = sym c.call_fault-code.ensures ∙ c.if-code-ne0.false in
+    let front : Front (frames_of (commands_of c.args.call c.args.d)) c.put_commands-n.new.out c.put_commands-n.result = front_wrote (commands_length c.args.call c.args.d (accepted_call c.args.call c.args.d passed)) c.put_commands-n.ensures in
+    returned_as (outcome_sends c.args.call (length c.args.out.now) c.args.d passed (sym c.is_deferred.ensures ∙ c.if-is_deferred.false)) (rw (front.front, c.desk_after-next.ensures) at c.deliver.ensures)
