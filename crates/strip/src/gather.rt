@@ -5,7 +5,7 @@ ghost use Rattle.strip.specs.Gather.{nothing_gathered, gathered};
 use desk::{PLACES, Watch, closed_desk};
 
 // The first records, as many as a desk has places, and how many came; past one too many they are not counted.
-#[derive(Drop)]
+#[derive(Clone, Copy)]
 pub struct Gathered {
     pub watch: [Watch; PLACES],
     pub count: usize,

@@ -10,7 +10,7 @@ use super::record::{Record, call_kind, record_at};
 use desk::{Call, Desk, LONGEST_FRAMES, closed_desk, open_records, perform};
 
 // Where a run is: what it read before the first call, and from there on the desk's record.
-#[derive(Drop)]
+#[derive(Clone, Copy)]
 pub struct Run {
     pub at: usize,
     // The desk is opened: before the first call, or at the end of a strip without one.
