@@ -9,7 +9,7 @@ the functions of the toolchain's libraries that are called. What the compiler it
 source only.
 
 In source a divisor is seen to be a power of two if it is such a literal, or the name of a constant that is such a literal and
-stands in the same file, which has no module in it, outside every block. Anything else is listed. Comments, byte literals,
+stands in the same file, which has no module in it, outside every block. Anything else is listed. Comments, byte and text literals,
 contracts and `ghost use` are no code; what cannot be told from code is listed too, and may hide a division after it.
 """
 import glob
@@ -21,7 +21,7 @@ import sys
 NO_CODE = re.compile(r"""
     //[^\n]* | /\*
     | \bbr(\#*)".*?"\1 | \bb"(?:\\.|[^"\\])*" | \bb'(?:\\x\w\w|\\.|[^'\\\n])'
-    | \bextern\s+"C"
+    | \bextern\s+"C" | "(?:\\.|[^"\\\n])*"
     | \b(?:requires|ensures|ghost)(?:\s+\w+)?\s*\{(?:(?!--)[^{}"«»]|\{(?!-)(?:(?!--)[^{}"«»])*\})*\}
     | \bghost\s+use\s(?:(?!--|\{-)[^;"«»])*;
     """, re.S | re.X)

@@ -5,6 +5,7 @@ ghost use Rattle.bencode.specs.Utf8.{following, lowest, highest, text_from, is_t
 use super::plain_text::plain_at;
 
 // How many bytes follow the first byte of a character; 4 for a byte that begins none.
+#[tactic(auto, using(crate::proofs::utf8::TextLaws::first_bytes))]
 fn following(b: u8) -> u8
     ensures { result ≡ following b }
 {

@@ -1,9 +1,13 @@
 // A stream of test cases on standard input, numbers, and bytes in hex, on standard output: what the conformance programs share.
 // A case is one byte of operation, a length (4 bytes, little-endian) and as many bytes of body.
-ghost use Rattle.std.specs.Prelude.{◌≡◌, ◌+◌, ◌*◌, ◌<◌};
-ghost use Rattle.io.specs.Counts.{IsPrefixLen};
+#![tactic(auto)]
 
-use libc::{STDIN_FILENO, STDOUT_FILENO};
+ghost use Rattle.std.specs.Prelude.{◌≡◌, ◌+◌, ◌*◌, ◌<◌, IfOk};
+ghost use Rattle.input.specs.Counts.{IsPrefixLen};
+
+use input::read_full;
+use std::io;
+use std::io::{Read, Write};
 
 // A case that is taken from the stream: its operation and the length of its body.
 #[derive(Drop)]
@@ -38,73 +42,77 @@ pub fn number_of(a: u8, b: u8, c: u8, d: u8) -> usize
 }
 
 // Takes the body of a case to the start of a buffer, or nothing where it is cut or longer than the buffer.
-fn take_body(operation: u8, length: usize, body: &mut [u8]) -> Taken
-    ensures { IsPrefixLen result.length body.new }
+fn take_body<R: Read>(
+    input: &mut R,
+    operation: u8,
+    length: usize,
+    body: &mut [u8],
+) -> io::Result<Taken>
+    ensures { IfOk result (λ taken. IsPrefixLen taken.length body.new) }
 {
     if body.len() < length {
-        return Taken {
+        return Ok(Taken {
             operation: Taken::NONE,
             length: 0,
             ended: false,
-        };
+        });
     }
-    if io::read_full(STDIN_FILENO, &mut body[..length]) < length {
-        return Taken {
+    if read_full(input, &mut body[..length])? < length {
+        return Ok(Taken {
             operation: Taken::NONE,
             length: 0,
             ended: false,
-        };
+        });
     }
-    Taken {
+    Ok(Taken {
         operation,
         length,
         ended: false,
-    }
+    })
 }
 
 // Takes the next case from the stream, its body to the start of a buffer.
-pub fn take_case(body: &mut [u8]) -> Taken
-    ensures { IsPrefixLen result.length body.new }
+pub fn take_case<R: Read>(input: &mut R, body: &mut [u8]) -> io::Result<Taken>
+    ensures { IfOk result (λ taken. IsPrefixLen taken.length body.new) }
 {
     let mut head = [0u8; 5];
-    let got = io::read_full(STDIN_FILENO, &mut head);
+    let got = read_full(input, &mut head)?;
     if got < 5 {
-        return Taken {
+        return Ok(Taken {
             operation: Taken::NONE,
             length: 0,
             ended: got == 0,
-        };
+        });
     }
     let length = number_of(head[1], head[2], head[3], head[4]);
-    take_body(head[0], length, body)
+    take_body(input, head[0], length, body)
 }
 
 // Whether to go on after a case: it was answered. Says so where it was not.
-pub fn go_on(taken: Taken, answered: bool) -> bool {
+pub fn go_on<W: Write>(out: &mut W, taken: Taken, answered: bool) -> io::Result<bool> {
     if !answered && !taken.ended {
-        print(b"case fault\n");
+        print(out, b"case fault\n")?;
     }
-    answered
+    Ok(answered)
 }
 
-pub fn print(text: &[u8]) {
-    io::write_all(STDOUT_FILENO, text);
+pub fn print<W: Write>(out: &mut W, text: &[u8]) -> io::Result<()> {
+    out.write_all(text)
 }
 
-pub fn print_number(n: u64) {
-    io::print_decimal(STDOUT_FILENO, n);
+pub fn print_number<W: Write>(out: &mut W, n: u64) -> io::Result<()> {
+    write!(out, "{n}")
 }
 
-fn print_byte(b: u8) {
+fn print_byte<W: Write>(out: &mut W, b: u8) -> io::Result<()> {
     let digits = b"0123456789abcdef";
-    print(&[digits[(b / 16) as usize], digits[(b % 16) as usize]]);
+    print(out, &[digits[(b / 16) as usize], digits[(b % 16) as usize]])
 }
 
 // Prints bytes in lower case hex digits.
-pub fn print_bytes(s: &[u8]) {
-    let mut i = 0;
-    while i < s.len() {
-        print_byte(s[i]);
-        i += 1;
+pub fn print_bytes<W: Write>(out: &mut W, s: &[u8]) -> io::Result<()> {
+    for b in s {
+        print_byte(out, *b)?;
     }
+    Ok(())
 }

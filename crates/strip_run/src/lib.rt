@@ -1,30 +1,31 @@
 // Runs a strip: makes its steps one by one and prints what each says.
-use libc::STDOUT_FILENO;
+#![tactic(auto)]
+
+use std::io;
+use std::io::Write;
 use strip::{Output, begin, next_step};
 
 // Prints the first n bytes, or all where there are fewer.
-fn print_front(bytes: &[u8], n: usize) -> bool {
+fn print_front<W: Write>(out: &mut W, bytes: &[u8], n: usize) -> io::Result<()> {
     if n < bytes.len() {
-        return io::write_all(STDOUT_FILENO, &bytes[..n]);
+        return out.write_all(&bytes[..n]);
     }
-    io::write_all(STDOUT_FILENO, bytes)
+    out.write_all(bytes)
 }
 
-fn print_output(output: Output) -> bool {
+fn print_output<W: Write>(out: &mut W, output: Output) -> io::Result<()> {
     let bytes = output.bytes;
-    print_front(&bytes, output.length)
+    print_front(out, &bytes, output.length)
 }
 
-// Runs a strip, and says whether all was printed.
-pub fn run_strip(s: &[u8]) -> bool {
+// Runs a strip and prints what it says. An error is the output's, and ends the run.
+pub fn run_strip<W: Write>(out: &mut W, s: &[u8]) -> io::Result<()> {
     let mut run = begin();
     while !run.over {
         let step = next_step(run, s);
         let output = step.output;
         run = step.run;
-        if !print_output(output) {
-            return false;
-        }
+        print_output(out, output)?;
     }
-    true
+    Ok(())
 }
