@@ -35,7 +35,8 @@ fn refused(code: u8) -> Sorted
 pub fn sort(s: &[u8], out: &mut [u8]) -> Sorted
     ensures { SortLeaves (sort_answer (length out.old) s.now) (sorted_payload s.now) out.old result out.new }
 {
-    if Sorted::LARGEST < s.len() {
+    let long = Sorted::LARGEST < s.len();
+    if long {
         return refused(Sorted::OVER_LIMIT);
     }
     match payload(s, Profile::Loose) {

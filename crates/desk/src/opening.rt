@@ -20,7 +20,7 @@ fn refuse_opening(code: u8) -> Opened
 }
 
 // Opens with the first `count` records of an array; those past them are passed over, and a count over the places is refused.
-// A caller that holds no slice of structs calls this one: such a slice's proof is walked by hand.
+// A caller that holds no slice of structs calls this one.
 pub fn open_records(watch: [Watch; PLACES], count: usize, down: i32, up: i32) -> Opened
     ensures { result ≡ opening count (take count watch) down up }
 {

@@ -188,15 +188,15 @@ module _ (profile : Profile) (s : List ℕ) where
           (record { header = h.header; is = h.is ∙ ap (λ (l : List ℕ). h.header ++ l) parts; eight = h.eight; hex = h.hex; number = h.number ∙ sym size })
           (omega arith) (payload_at profile (take n after)) refl
 
-  row_of : Digits 8 s → (a : Answer) × AnswerRowBy profile s a
-  row_of (all ds after is n p) = headed_row (hex_from 0 ds) after (record { header = ds; is = is; eight = n; hex = p; number = refl })
-  row_of (fewer p n) = (refused 1 0, short_header p n)
-  row_of (other ds after c is p n g) = (refused 2 (length ds), no_digit ds after c is p n g)
+  row_of_lem : Digits 8 s → (a : Answer) × AnswerRowBy profile s a
+  row_of_lem (all ds after is n p) = headed_row (hex_from 0 ds) after (record { header = ds; is = is; eight = n; hex = p; number = refl })
+  row_of_lem (fewer p n) = (refused 1 0, short_header p n)
+  row_of_lem (other ds after c is p n g) = (refused 2 (length ds), no_digit ds after c is p n g)
 
 -- ---- the statements
 pub answers_by_row_by : AnswersByRowBy
 answers_by_row_by profile s a =
-    let r = row_of profile s (digits_of 8 s) in
+    let r = row_of_lem profile s (digits_of 8 s) in
     (λ e. subst (λ (b : Answer). AnswerRowBy profile s b) (row_answered profile s r.0 r.1 ∙ e) r.1, λ row. sym (row_answered profile s a row))
 
 pub answers_meaning_by : AnswersMeaningBy

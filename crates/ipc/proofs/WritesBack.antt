@@ -171,10 +171,10 @@ pub payload_again : (k : ℕ) (given : Given) (s : List ℕ) (tag : ℕ) (key : 
 unfolding payload_of flatten
 payload_again k given s tag key x p q = rw (p, q) refl
 
-written_count : (k : ℕ) (given : Given) (s : List ℕ) (tag room : ℕ) (p : List ℕ) → is_written k ≡ true → value_fits (class_of k) given s ≡ true → tag ≤ largest_tag → payload_of k given s tag ≡ p
+written_count_lem : (k : ℕ) (given : Given) (s : List ℕ) (tag room : ℕ) (p : List ℕ) → is_written k ≡ true → value_fits (class_of k) given s ≡ true → tag ≤ largest_tag → payload_of k given s tag ≡ p
     → length p ≤ largest_payload → header_length + length p ≤ room → write_answer k given s tag room ≡ Written.Count (header_length + length p)
 unfolding write_answer message_fault
-written_count k given s tag room p w v t e small fits = rw (w, v, le-leb tag largest_tag t, e) (fitted_count p room small fits)
+written_count_lem k given s tag room p w v t e small fits = rw (w, v, le-leb tag largest_tag t, e) (fitted_count p room small fits)
 
 -- the frame of a payload is the one that was read, with the header's letters in upper case
 frame_again : (f header p rest : List ℕ) → f ≡ header ++ (p ++ rest) → length header ≡ header_length → HexDigits header → hex_from 0 header ≡ length p
@@ -204,7 +204,7 @@ module _ (f : List ℕ) (a : Answer) (room : ℕ) (framed : Framed f a) (m : Mea
       let stands = stands_in f framed.header p (encode_string m.key) (encode m.content) (encode_tag m.tag ++ (letter_e ∷ [])) framed.rest framed.eight framed.is m.spelt in
       let v = value_again f (1 + length (encode_string m.key)) m.content m.held (class_of k) (written_allowed k w) i stands m.fits in
       let payload : payload_of k (given_of c) (bytes_of f c) m.tag ≡ p = payload_again k (given_of c) (bytes_of f c) m.tag m.key m.content (sym (key_named m.key (written_listed k w))) v.same ∙ sym m.spelt in (
-        written_count k (given_of c) (bytes_of f c) m.tag room p w v.fits m.small payload framed.small fits,
+        written_count_lem k (given_of c) (bytes_of f c) m.tag room p w v.fits m.small payload framed.small fits,
         ap frame_of payload ∙ frame_again f framed.header p framed.rest framed.is framed.eight framed.hex framed.number,
       )
 

@@ -59,7 +59,8 @@ impl TorrentId {
         if n < 1 {
             return OptionalId::None;
         }
-        if TorrentId::LARGEST < n {
+        let above = TorrentId::LARGEST < n;
+        if above {
             return OptionalId::None;
         }
         OptionalId::Id(TorrentId(n as u32))

@@ -24,7 +24,8 @@ impl Versions {
     pub fn new(min: i64, max: i64) -> OptionalVersions
         ensures { result ≡ range_of min max }
     {
-        if min < 1 {
+        let below = min < 1;
+        if below {
             return OptionalVersions::None;
         }
         if max < min {

@@ -78,7 +78,8 @@ fn digits(s: &[u8], at: usize) -> Decimal
 pub fn numeral(s: &[u8], at: usize) -> Decimal
     ensures { result ≡ capped (numeral_at s.now at) }
 {
-    if byte_at(s, at) == b'0' {
+    let zero = byte_at(s, at) == b'0';
+    if zero {
         return Decimal {
             end: at + 1,
             number: 0,

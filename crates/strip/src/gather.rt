@@ -24,7 +24,8 @@ pub fn gather(g: Gathered, id: u32, running: bool) -> Gathered
     ensures { result ≡ gathered g (record { id = id; running = running }) }
 {
     let count = g.count;
-    if PLACES < count {
+    let over = PLACES < count;
+    if over {
         return g;
     }
     let mut next = g;

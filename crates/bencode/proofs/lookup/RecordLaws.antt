@@ -66,9 +66,9 @@ pub end_found : (end found : ℕ) → (found ≡ 0 → ⊥) → Noted.Found end 
 end_found end zero h = absurd (h refl)
 end_found end (suc found) h = refl
 
-pub found_before : (found : ℕ) (t : Bool) (end : ℕ) → (found ≡ 0 → ⊥) → found ≡ found_after found t end
-found_before zero t end h = absurd (h refl)
-found_before (suc found) t end h = refl
+pub found_before_lem : (found : ℕ) (t : Bool) (end : ℕ) → (found ≡ 0 → ⊥) → found ≡ found_after found t end
+found_before_lem zero t end h = absurd (h refl)
+found_before_lem (suc found) t end h = refl
 
 pub found_here : (found : ℕ) (t : Bool) (end : ℕ) → found ≡ 0 → t ≡ true → end ≡ found_after found t end
 found_here zero t end e q = rw q refl

@@ -8,14 +8,14 @@ pub overflow_add-result : goal.overflow_add-result
 overflow_add-result c =
     let at = c.args.at in
     let s = c.args.s.now in
-    omega (arith, inside s at (omega (arith, c.byte_at.ensures)))
+    omega (arith, inside s at (omega (arith, c.byte_at-zero.ensures)))
 
-pub returns-then-byte_at-eq48 : goal.returns-then-byte_at-eq48
-returns-then-byte_at-eq48 c =
+pub returns-then-zero : goal.returns-then-zero
+returns-then-zero c =
     let a = c.args in
-    sym (ap capped (numeral_zero a.s.now a.at (sym c.byte_at.ensures ∙ c.if-byte_at-eq48.true)))
+    sym (ap capped (numeral_zero a.s.now a.at (sym c.byte_at-zero.ensures ∙ c.if-zero.true)))
 
 pub returns : goal.returns
 returns c =
     let a = c.args in
-    c.digits.ensures ∙ sym (ap capped (numeral_digits a.s.now a.at (λ e. c.if-byte_at-eq48.false (c.byte_at.ensures ∙ e))))
+    c.digits.ensures ∙ sym (ap capped (numeral_digits a.s.now a.at (λ e. c.if-zero.false (c.byte_at-zero.ensures ∙ e))))
