@@ -7,7 +7,7 @@ ghost use Rattle.bencode.specs.Depth.{nested};
 pub struct Depth(u8);
 
 // The depth inside one more list or dictionary, or that this is too deep.
-#[derive(Drop)]
+#[derive(Clone, Copy)]
 pub enum Deeper {
     Depth(Depth),
     TooDeep,

@@ -7,7 +7,7 @@ use super::strings::{Text, string};
 use octets::same;
 
 // The offset of the value of a key, or that there is no such key.
-#[derive(Drop)]
+#[derive(Clone, Copy)]
 pub enum Entry {
     At(usize),
     Missing,

@@ -1,7 +1,7 @@
 // What a walk of a payload answers, and the codes of the faults (document 01, 'What the reader says'; document 02 for 10 and 11).
 
 // The first fault of a payload: its code, and the offset of the byte at fault from the payload's start.
-#[derive(Drop)]
+#[derive(Clone, Copy)]
 pub struct Fault {
     pub code: u8,
     pub offset: usize,
@@ -25,7 +25,7 @@ impl Fault {
 }
 
 // What a walk finds: the offset after the value, or the first fault.
-#[derive(Drop)]
+#[derive(Clone, Copy)]
 pub enum Walk {
     End(usize),
     Fault(Fault),

@@ -11,7 +11,7 @@ use octets::byte_at;
 
 // A value by its kind: an integer and the offset after it, the start and the end of a string's text, or the offset of a
 // list's first item or of a dictionary's first entry.
-#[derive(Drop)]
+#[derive(Clone, Copy)]
 pub enum Field {
     Integer { value: i64, end: usize },
     Text { start: usize, end: usize },

@@ -7,7 +7,7 @@ use super::fault::{Fault, Walk};
 use octets::{byte_at, numeral};
 
 // What stands where an integer is expected: its value and the offset after it, or the fault.
-#[derive(Drop)]
+#[derive(Clone, Copy)]
 pub enum Number {
     Integer { value: i64, end: usize },
     Fault(Fault),

@@ -6,7 +6,7 @@ use super::skip::skip_value;
 use octets::byte_at;
 
 // What stands at an offset of a list, between two of its items: an item, by the offset after it, or the list's end.
-#[derive(Drop)]
+#[derive(Clone, Copy)]
 pub enum Item {
     Value(usize),
     End,

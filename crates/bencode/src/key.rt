@@ -35,7 +35,7 @@ impl Seen {
 }
 
 // The check of a key: what is kept after it where it is allowed, or the code of its fault.
-#[derive(Drop)]
+#[derive(Clone, Copy)]
 pub enum KeyCheck {
     Allowed(Seen),
     Refused(u8),

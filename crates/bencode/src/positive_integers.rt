@@ -22,7 +22,7 @@ const ABOVE_FEWER: u64 = 1000000000;
 const SECOND: u64 = 100000000;
 
 // Digits, by the offset after them and a number above theirs.
-#[derive(Drop)]
+#[derive(Clone, Copy)]
 pub struct Bounded {
     pub end: usize,
     pub above: u64,

@@ -11,7 +11,7 @@ use super::profile::Profile;
 use super::walk::dictionary;
 
 // The offset after a dictionary, with the offset of the value of a key if it has it; or the dictionary's fault.
-#[derive(Drop)]
+#[derive(Clone, Copy)]
 pub enum Noted {
     Found { end: usize, value: usize },
     Missing(usize),

@@ -7,7 +7,7 @@ ghost use Rattle.bencode.specs.Strings.{string_at};
 use octets::byte_at;
 
 // Where a text starts and ends. Where the end is 0, this says nothing.
-#[derive(Drop)]
+#[derive(Clone, Copy)]
 pub struct Place {
     pub start: usize,
     pub end: usize,

@@ -7,7 +7,7 @@ use super::fault::{Fault, Walk};
 use octets::{byte_at, numeral};
 
 // What stands where a string is expected: the start and the end of its text, or the fault.
-#[derive(Drop)]
+#[derive(Clone, Copy)]
 pub enum Text {
     Bytes { start: usize, end: usize },
     Fault(Fault),

@@ -27,7 +27,7 @@ pub struct Level {
 }
 
 // What may stand at an offset.
-#[derive(Drop)]
+#[derive(Clone, Copy)]
 pub enum Kind {
     // Nothing more: the payload's value has ended.
     Over,
@@ -39,7 +39,7 @@ pub enum Kind {
 }
 
 // What stands at an offset.
-#[derive(Drop)]
+#[derive(Clone, Copy)]
 pub enum Token {
     // Nothing more: what the payload's value comes to.
     Done(Walk),

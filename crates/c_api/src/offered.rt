@@ -5,7 +5,7 @@ ghost use Rattle.c_api.specs.Offered.{offered};
 use ipc::Given;
 
 // A value that the writer takes, or a number that is no kind of value.
-#[derive(Drop)]
+#[derive(Clone, Copy)]
 pub enum Offered {
     Given(Given),
     Unknown,

@@ -8,7 +8,7 @@ use canonical::Sorted;
 
 // Code 0 and the count of the bytes written, or the refusal's code and offset.
 #[repr(C)]
-#[derive(Drop)]
+#[derive(Clone, Copy)]
 pub struct SortAnswer {
     pub code: u8,
     pub offset: usize,

@@ -7,7 +7,7 @@ use bencode::{Profile, Walk};
 
 // The fault's code and offset, or 0 and the payload's length.
 #[repr(C)]
-#[derive(Drop)]
+#[derive(Clone, Copy)]
 pub struct WalkAnswer {
     pub code: u8,
     pub offset: usize,

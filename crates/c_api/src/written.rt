@@ -6,7 +6,7 @@ use ipc::Written;
 
 // Code 0 and the frame's byte count, or the code of the refusal and 0.
 #[repr(C)]
-#[derive(Drop)]
+#[derive(Clone, Copy)]
 pub struct WriteAnswer {
     pub code: u8,
     pub count: usize,

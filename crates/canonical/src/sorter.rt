@@ -9,7 +9,7 @@ use super::write::put_value;
 use bencode::{Depth, Fault, Profile, Walk, payload};
 
 // The count of the bytes written, which is that of the payload; or the refusal.
-#[derive(Drop)]
+#[derive(Clone, Copy)]
 pub enum Sorted {
     Count(usize),
     Fault(Fault),

@@ -10,7 +10,7 @@ use std::io;
 use std::io::{Read, Write};
 
 // A case that is taken from the stream: its operation and the length of its body.
-#[derive(Drop)]
+#[derive(Clone, Copy)]
 pub struct Taken {
     pub operation: u8,
     pub length: usize,

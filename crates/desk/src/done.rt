@@ -5,7 +5,7 @@ use super::record::Desk;
 pub const LONGEST_FRAMES: usize = 479;
 
 // A call's code, how many bytes it wrote, and the record after it.
-#[derive(Drop)]
+#[derive(Clone, Copy)]
 pub struct Done {
     pub code: u8,
     pub count: usize,
@@ -30,7 +30,7 @@ impl Done {
 }
 
 // An opening's code and the desk, which is closed where the opening is refused.
-#[derive(Drop)]
+#[derive(Clone, Copy)]
 pub struct Opened {
     pub code: u8,
     pub desk: Desk,

@@ -3,11 +3,11 @@ ghost use Rattle.std.specs.Prelude.{◌≡◌};
 ghost use Rattle.desk.specs.Limit.{is_limit, limit_of};
 
 // A limit that the desk takes.
-#[derive(Drop)]
+#[derive(Clone, Copy)]
 pub struct Limit(i32);
 
 // A limit, or none where the number is out of range.
-#[derive(Drop)]
+#[derive(Clone, Copy)]
 pub enum OptionalLimit {
     Limit(Limit),
     None,

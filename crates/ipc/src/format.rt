@@ -17,7 +17,7 @@ use octets::byte_at;
 pub const LARGEST_PORT: u16 = 65535;
 
 // A value in its format, or off it.
-#[derive(Drop)]
+#[derive(Clone, Copy)]
 pub enum Checked {
     Value(Value),
     Off,
@@ -32,7 +32,7 @@ pub enum Items {
 }
 
 // The offset after what is in its format, or none where it is off it.
-#[derive(Drop)]
+#[derive(Clone, Copy)]
 pub enum OptionalEnd {
     End(usize),
     None,

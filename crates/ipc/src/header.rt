@@ -3,7 +3,7 @@ ghost use Rattle.std.specs.Prelude.{◌≡◌};
 ghost use Rattle.ipc.specs.Header.{hex_value, read_header, header_code, header_offset, sized, size_code, length_code};
 
 // What reading a header finds: the number, the offset of a byte that is no hex digit, or too few bytes.
-#[derive(Drop)]
+#[derive(Clone, Copy)]
 pub enum Header {
     Length(u32),
     NoDigit(usize),
@@ -14,11 +14,11 @@ pub enum Header {
 pub const HEADER_LENGTH: usize = 8;
 
 // The length of a payload, at most LARGEST.
-#[derive(Drop)]
+#[derive(Clone, Copy)]
 pub struct PayloadLength(u32);
 
 // A payload's length, or which of the two limits it is over.
-#[derive(Drop)]
+#[derive(Clone, Copy)]
 pub enum Sized {
     Length(PayloadLength),
     OverLimit,

@@ -3,11 +3,11 @@ ghost use Rattle.std.specs.Prelude.{◌≡◌};
 ghost use Rattle.ipc.specs.Ids.{tag_of, torrent_id_of};
 
 // The tag of a message.
-#[derive(Drop)]
+#[derive(Clone, Copy)]
 pub struct Tag(u32);
 
 // A tag, or none.
-#[derive(Drop)]
+#[derive(Clone, Copy)]
 pub enum OptionalTag {
     Tag(Tag),
     None,
@@ -38,11 +38,11 @@ impl Tag {
 }
 
 // The ID of a torrent.
-#[derive(Drop)]
+#[derive(Clone, Copy)]
 pub struct TorrentId(u32);
 
 // A torrent ID, or none.
-#[derive(Drop)]
+#[derive(Clone, Copy)]
 pub enum OptionalId {
     Id(TorrentId),
     None,

@@ -173,7 +173,7 @@ fn row_at(k: usize) -> KeyRow
 }
 
 // A key by its number and the format of its values. One that is not listed has the number 0.
-#[derive(Drop)]
+#[derive(Clone, Copy)]
 pub struct Key {
     pub number: u8,
     pub class: Class,

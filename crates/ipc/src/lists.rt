@@ -11,7 +11,7 @@ use octets::byte_at;
 
 // A list whose items are all in their format, by the offset after it; a list that comes to what it comes to from an offset on,
 // given up because no item in its format stands there or just before; or the list's first fault.
-#[derive(Drop)]
+#[derive(Clone, Copy)]
 pub enum ListCheck {
     Fits(usize),
     Off(usize),

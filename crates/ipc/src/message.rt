@@ -27,7 +27,7 @@ use bencode::{
 use octets::byte_at;
 
 // What stands after a message's value: a tag or none, and then the list's end; or something else.
-#[derive(Drop)]
+#[derive(Clone, Copy)]
 pub enum Tail {
     Tag(OptionalTag),
     Other,
@@ -70,7 +70,7 @@ fn answer(p: &[u8], key: u8, tag: OptionalTag, checked: Checked) -> Reading
 
 // What is found of a message's value: it ends at an offset and is a list in its format; it ends there and is not yet held to its
 // format; or its first fault.
-#[derive(Drop)]
+#[derive(Clone, Copy)]
 pub enum ValueCheck {
     Fits(usize),
     Other(usize),

@@ -9,7 +9,7 @@ use super::versions::Versions;
 
 // The value of an answer, by its kind.
 #[repr(C)]
-#[derive(Drop)]
+#[derive(Clone, Copy)]
 pub struct ValueNumbers {
     pub kind: u8,
     pub min: u32,
@@ -33,7 +33,7 @@ impl ValueNumbers {
 
 // The seven fields of document 01's answer. A refusal is of no kind, so that its kind is never taken for a message's.
 #[repr(C)]
-#[derive(Drop)]
+#[derive(Clone, Copy)]
 pub struct Numbers {
     pub code: u8,
     pub kind: u8,

@@ -3,7 +3,7 @@ use super::ids::OptionalTag;
 use super::versions::Versions;
 
 // The value of a message. Offsets count from the frame's first byte.
-#[derive(Drop)]
+#[derive(Clone, Copy)]
 pub enum Value {
     // An ignored value.
     Nothing,
@@ -15,7 +15,7 @@ pub enum Value {
 }
 
 // A message: the number of its key, its tag and its value.
-#[derive(Drop)]
+#[derive(Clone, Copy)]
 pub struct Message {
     pub key: u8,
     pub tag: OptionalTag,
@@ -23,7 +23,7 @@ pub struct Message {
 }
 
 // The answer to a frame.
-#[derive(Drop)]
+#[derive(Clone, Copy)]
 pub enum Reading {
     Message { message: Message, consumed: usize },
     Handshake { versions: Versions, consumed: usize },

@@ -10,7 +10,7 @@ pub struct Versions {
 }
 
 // A range of versions, or none.
-#[derive(Drop)]
+#[derive(Clone, Copy)]
 pub enum OptionalVersions {
     Range(Versions),
     None,

@@ -20,7 +20,7 @@ pub enum Given {
 }
 
 // What a writer answers: how many bytes the frame has, or the code of the refusal.
-#[derive(Drop)]
+#[derive(Clone, Copy)]
 pub enum Written {
     Count(usize),
     Refused(u8),

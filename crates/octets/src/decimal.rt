@@ -50,7 +50,7 @@ pub fn decimal_length(n: u64) -> usize
 }
 
 // A digit, and what is left below it.
-#[derive(Drop)]
+#[derive(Clone, Copy)]
 struct Digit {
     digit: u8,
     rest: u64,

@@ -5,7 +5,7 @@ ghost use Rattle.octets.specs.Numerals.{digits, digits_at, numeral_at, capped};
 use super::bytes::{byte_at, wide};
 
 // A decimal numeral: the offset after its last digit, and its number, at most LARGEST.
-#[derive(Drop)]
+#[derive(Clone, Copy)]
 pub struct Decimal {
     pub end: usize,
     pub number: u64,

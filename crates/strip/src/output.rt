@@ -2,7 +2,7 @@
 use desk::LONGEST_FRAMES;
 
 // The bytes at the front, and how many they are.
-#[derive(Drop)]
+#[derive(Clone, Copy)]
 pub struct Output {
     pub bytes: [u8; Output::ROOM],
     pub length: usize,

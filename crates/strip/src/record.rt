@@ -7,7 +7,7 @@ use desk::Call;
 use octets::byte_at;
 
 // What stands at an offset of a strip: a record, a fault or the strip's end.
-#[derive(Drop)]
+#[derive(Clone, Copy)]
 pub enum Record {
     Limits { down: i32, up: i32 },
     Watch { id: u32, running: bool },
@@ -17,7 +17,7 @@ pub enum Record {
 }
 
 // A record and the offset after it. A fault's offset is its record's own.
-#[derive(Drop)]
+#[derive(Clone, Copy)]
 pub struct Decoded {
     pub found: Record,
     pub offset: usize,

@@ -23,7 +23,7 @@ pub struct Run {
 }
 
 // The run after a step, and what the step prints.
-#[derive(Drop)]
+#[derive(Clone, Copy)]
 pub struct Step {
     pub run: Run,
     pub output: Output,
