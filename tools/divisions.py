@@ -1,14 +1,11 @@
 #!/usr/bin/env python3
-"""Lists each division and remainder whose divisor is not seen to be a power of two.
+"""Lists each division and remainder in Rattle source whose divisor is not seen to be a power of two.
 
-Usage: tools/divisions.py source FOLDER..    in Rattle source: `FILE:LINE: the line` for each such line
-       tools/divisions.py mir NAME           in what `rt mir` prints, handed in: `NAME: FUNCTION: the divisor` for each
+Usage: tools/divisions.py source FOLDER..    lists `FILE:LINE: the line` for each such line
 
-Prints how many were seen if none is listed; else ends with status 1. MIR, the form that is compiled, has names resolved and has
-the functions of the toolchain's libraries that are called. What the compiler itself computes, as a constant's value, stands in
-source only.
+Prints how many were seen if none is listed; else ends with status 1.
 
-In source a divisor is seen to be a power of two if it is such a literal, or the name of a constant that is such a literal and
+A divisor is seen to be a power of two if it is such a literal, or the name of a constant that is such a literal and
 stands in the same file, which has no module in it, outside every block. Anything else is listed. Comments, byte and text literals,
 contracts and `ghost use` are no code; what cannot be told from code is listed too, and may hide a division after it.
 """
@@ -36,7 +33,6 @@ DIVISOR = re.compile(r"(\w+)(?:\s+as\s+\w+)*")
 CONTINUED = re.compile(r"\s*(?:::|\(|\[|\.(?!\.))")
 STATEMENT_END = re.compile(r"\s*[;,)}]")
 LITERAL = re.compile(r"(0x[0-9a-f_]+|0o[0-7_]+|0b[01_]+|[0-9][0-9_]*)(?:[iu](?:8|16|32|64|size))?")
-TOKEN = re.compile(r'"[^"]*"|[()]|[^\s()"]+')
 
 
 def is_power(number):
@@ -115,46 +111,11 @@ def in_source(folders):
     return seen, listed
 
 
-def operand_end(tokens, at):
-    """Where the operand ends that starts at an index: a word, or all from a bracket to its partner."""
-    depth = 0
-    while True:
-        depth += {"(": 1, ")": -1}.get(tokens[at], 0)
-        at += 1
-        if depth == 0:
-            return at
-
-
-def in_mir(crate, text):
-    """How many divisions and remainders a crate's MIR has, and a line for each that is listed."""
-    tokens = TOKEN.findall(text)
-    function, seen, listed = "", 0, []
-    for at, token in enumerate(tokens):
-        if tokens[at - 1] == "fn-def":
-            function = token.strip('"')
-        if token in ("floatDiv", "floatRem"):
-            seen += 1
-            listed.append(f"{crate}: {function}: {token}")
-        # (op2 (div SIGN) DIVIDEND DIVISOR)
-        if token in ("div", "rem") and tokens[at - 2] == "op2":
-            seen += 1
-            start = operand_end(tokens, at + 3)
-            divisor = tokens[start:operand_end(tokens, start)]
-            if divisor[1] != "int" or not is_power(int(divisor[3])):
-                listed.append(f"{crate}: {function}: {token} by {' '.join(divisor)}")
-    if not function:
-        listed.append(f"{crate}: no functions")
-    return seen, listed
-
-
 def main(arguments):
-    if len(arguments) > 1 and arguments[0] == "source":
-        what, (seen, listed) = "source", in_source(arguments[1:])
-    elif len(arguments) == 2 and arguments[0] == "mir":
-        what, (seen, listed) = f"compiled: {arguments[1]}", in_mir(arguments[1], sys.stdin.read())
-    else:
-        sys.exit("usage: tools/divisions.py source FOLDER.. | tools/divisions.py mir NAME")
-    print("\n".join(listed) or f"{what}: {seen} divisions and remainders, each by a power of two")
+    if len(arguments) < 2 or arguments[0] != "source":
+        sys.exit("usage: tools/divisions.py source FOLDER..")
+    seen, listed = in_source(arguments[1:])
+    print("\n".join(listed) or f"source: {seen} divisions and remainders, each by a power of two")
     return 1 if listed else 0
 
 

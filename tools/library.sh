@@ -6,10 +6,10 @@ cd "$(dirname "$0")/.."
 
 library=target/staticlib/libbogsilver.a
 rm -f "$library"
-mkdir -p target
-rt staticlib c_api >target/library.log 2>&1 || {
+mkdir -p target/staticlib
+(cd crates/c_api && rt lib) >target/library.log 2>&1 || {
     cat target/library.log >&2
     exit 1
 }
-mv target/staticlib/libc_api.a "$library"
+cp crates/c_api/out/libc_api.a "$library"
 echo "$library"

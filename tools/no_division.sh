@@ -1,26 +1,12 @@
 #!/bin/sh
 # Shows that nothing divides but by powers of two (request 04), and lists each place where something does:
-# - source: in the source of every crate;
-# - machine: in what the library and override-desk are compiled from, the toolchain's functions that they call too; and no
-#   division instruction in their machine code. The first shows a division by a constant, which becomes a multiplication, the
-#   second one that the compiler adds.
+# - source: in the source of every crate, also by a constant, which becomes a multiplication in machine code;
+# - machine: no division instruction and no call of a division routine in the machine code of the library and of override-desk,
+#   what the compiler added and the toolchain's functions that they call too. A division by a constant in those is not seen.
 # Usage: tools/no_division.sh [source] [machine]; with no argument both. machine proves and builds first.
 # source needs Python; machine needs rt and objdump too.
 set -eu
 CDPATH= cd -- "$(dirname -- "$0")/.."
-
-# toolchain WORDS..: runs rt into target/no_division.txt; where it fails, what it said is shown.
-toolchain() {
-    rt "$@" >target/no_division.txt 2>target/no_division.log || {
-        cat target/no_division.txt target/no_division.log >&2
-        return 1
-    }
-}
-
-# compiled CRATE: lists the divisions in what it is compiled from.
-compiled() {
-    toolchain mir "$1" && tools/divisions.py mir "$1" <target/no_division.txt
-}
 
 # disassembled FILE: lists the instructions that divide and the calls of division routines, each with its function.
 disassembled() {
@@ -63,11 +49,12 @@ for part in "$@"; do
         continue
     fi
     library=$(tools/library.sh)
-    toolchain check override_desk
-    for crate in c_api override_desk; do
-        compiled "$crate" || fault=1
-    done
-    for file in "$library" target/bin/override_desk; do
+    # rt run also runs what it built: here on an empty strip
+    (cd crates/override_desk && rt run) </dev/null >target/no_division.log 2>&1 || {
+        cat target/no_division.log >&2
+        exit 1
+    }
+    for file in "$library" crates/override_desk/out/override_desk; do
         disassembled "$file" || fault=1
     done
 done

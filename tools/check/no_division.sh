@@ -1,6 +1,6 @@
 #!/bin/sh
-# Tries tools/no_division.sh in a small tree of its own: each division that is put in is found, in source, in what is compiled
-# or in machine code, and what may stand is passed. Takes half a minute; needs rt, Python, gcc, ar and objdump.
+# Tries tools/no_division.sh in a small tree of its own: each division that is put in is found, in source or in machine code, and
+# what may stand is passed. Takes two minutes; needs rt, Python, gcc, ar and objdump.
 set -eu
 CDPATH= cd -- "$(dirname -- "$0")/../.."
 tree=$(mktemp -d)
@@ -9,7 +9,7 @@ trap 'exit 1' HUP INT TERM
 mkdir -p "$tree/tools" "$tree/crates/c_api/src" "$tree/crates/override_desk/src"
 cp tools/no_division.sh tools/divisions.py tools/library.sh "$tree/tools"
 cd "$tree"
-printf 'c_api:\noverride_desk: io libc\n' >crates.txt
+printf 'c_api staticlib:\noverride_desk:\n' >crates.txt
 
 fail() {
     echo "not as expected: $1" >&2
@@ -120,11 +120,12 @@ says 0 source
 grep -qx 'source: 15 divisions and remainders, each by a power of two' said.txt || fail "powers of two"
 echo "source: $(wc -l <want.txt) lines listed, 15 divisions by powers of two passed"
 
-# What is compiled, and its machine code: a library and a program, one of them with a division.
+# Machine code: a library and a program, one of them with a division.
 library() {
     cat >crates/c_api/src/lib.rt <<SOURCE
+#![tactic(auto)]
 const TEN: u64 = 10;
-#[no_mangle]
+#[unsafe(no_mangle)]
 pub extern "C" fn bogsilver_trial(n: u64, d: u64) -> u64 {
     if d == 0 { TEN } else { $1 }
 }
@@ -132,22 +133,26 @@ SOURCE
 }
 program() {
     cat >crates/override_desk/src/main.rt <<SOURCE
-fn main() {
+#![tactic(auto)]
+use std::io;
+use std::io::{Read, Write};
+fn main(rt: HostRuntime) -> io::Result<()> {
     let mut space = [0u8; 2];
-    io::read_full(libc::STDIN_FILENO, &mut space);
+    rt.stdin().read(&mut space)?;
     let d = space[0];
     if d != 0 {
         space[0] = $1;
-        io::write_all(libc::STDOUT_FILENO, &space);
+        rt.stdout().write(&space)?;
     }
+    Ok(())
 }
 SOURCE
 }
 
-# found PATTERN..: what is listed of what is compiled and of machine code begins so, and nothing else is listed.
+# found PATTERN..: what is listed of machine code begins so, and nothing else is listed.
 found() {
     says 1 machine
-    grep -v -e 'each by a power of two$' -e 'none divides$' said.txt >found.txt || :
+    grep -v 'none divides$' said.txt >found.txt || :
     for pattern; do
         grep -q "^$pattern" found.txt || fail "nothing found as $pattern"
         grep -v "^$pattern" found.txt >left.txt || :
@@ -156,26 +161,28 @@ found() {
     [ ! -s found.txt ] || fail "found beside $*"
 }
 archive=target/staticlib/libbogsilver.a
-binary=target/bin/override_desk
+binary=crates/override_desk/out/override_desk
 library 'n / 16'
 program 'space[1] % 8'
 says 0
-[ "$(grep -c 'each by a power of two$' said.txt)" -eq 3 ] || fail "powers of two in source and in what is compiled"
+[ "$(grep -c 'each by a power of two$' said.txt)" -eq 1 ] || fail "powers of two in source"
 [ "$(grep -c 'none divides$' said.txt)" -eq 2 ] || fail "machine code without a division"
-library 'n / TEN'
-found 'c_api: c_api::bogsilver_trial: div by ( int 64 10 )'
 library 'n % d'
-found 'c_api: c_api::bogsilver_trial: rem by ( copy' "$archive: bogsilver_trial: div "
+found "$archive: bogsilver_trial: div "
 library 'n / 0'
 says 1 machine
-grep -q 'NOT PROVED\|not-proved' said.log || fail "a library that is not proved"
-library 'if 1.0 / 2.0 < 0.1 { n } else { d }'
-found 'c_api: c_api::bogsilver_trial: floatDiv'
+grep -q 'not-proved' said.log || fail "a library that is not proved"
+library 'if f64::from((n % 16) as u32) / 3.0 < 0.1 { n } else { d }'
+found "$archive: bogsilver_trial: divsd "
+library 'n.checked_div(d).unwrap_or(7)'
+found "$archive: bogsilver_trial: div "
+says 0 source
 library 'd'
+program 'space[1] / 0'
+says 1 machine
+grep -q 'not-proved' said.log || fail "a program that is not proved"
 program 'space[1] / d'
-found 'override_desk: override_desk::main: div by ( copy' "$binary: main: div "
-program '7; io::print_decimal(libc::STDOUT_FILENO, 7)'
-found 'override_desk: io::number::'
+found "$binary: .*main.*: div "
 program '7'
 
 # Machine code alone, by gcc: a signed division, one behind a prefix, a call of a division routine, no code at all, and a
@@ -205,4 +212,4 @@ object cut 'int bogsilver_trial(void) { return 1; }'
 head -c 100 signed.o >no_object.o
 ar rcS cut.a no_object.o
 found "$archive: not disassembled"
-echo "machine: a division found in each of 8 builds; an unproved, an empty and a broken library refused"
+echo "machine: a division found in each of 7 builds; a library and a program unproved, an empty and a broken library refused"
