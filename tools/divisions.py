@@ -1,11 +1,15 @@
 #!/usr/bin/env python3
-"""Lists each division and remainder in Rattle source whose divisor is not seen to be a power of two.
+"""Lists each division and remainder whose divisor is not seen to be a power of two.
 
-Usage: tools/divisions.py source FOLDER..    lists `FILE:LINE: the line` for each such line
+Usage: tools/divisions.py source FOLDER..    in Rattle source: `FILE:LINE: the line` for each such line
+       tools/divisions.py plain NAME         in what objdump -dr shows, handed in, of a library or program that Rattle's own
+                                             compiler built at level 0: `NAME: FUNCTION: the instruction` for each
 
-Prints how many were seen if none is listed; else ends with status 1.
+Prints how many were seen if none is listed; else ends with status 1. At that level each division is an instruction, one by a
+constant too, whose divisor is put into a register right before; names are resolved, and the functions of the toolchain's
+libraries that are called stand there. What the compiler itself computes, as a constant's value, stands in source only.
 
-A divisor is seen to be a power of two if it is such a literal, or the name of a constant that is such a literal and
+In source a divisor is seen to be a power of two if it is such a literal, or the name of a constant that is such a literal and
 stands in the same file, which has no module in it, outside every block. Anything else is listed. Comments, byte and text literals,
 contracts and `ghost use` are no code; what cannot be told from code is listed too, and may hide a division after it.
 """
@@ -32,6 +36,14 @@ DIVISOR = re.compile(r"(\w+)(?:\s+as\s+\w+)*")
 # A path, a call, an index or a field makes another number of what stands before it; `..` is a range.
 CONTINUED = re.compile(r"\s*(?:::|\(|\[|\.(?!\.))")
 STATEMENT_END = re.compile(r"\s*[;,)}]")
+FUNCTION = re.compile(r"[0-9a-f]+ <(.*)>:")
+INSTRUCTION = re.compile(r" *([0-9a-f]+):\t(.*?) *")
+JUMP = re.compile(r"(?:[a-z]+ )*j[a-z]+ +([0-9a-f]+) <")
+TABLE = re.compile(r"lea +0x[0-9a-f]+\(%rip\),%\w+ +# ([0-9a-f]+) <")
+DIVIDES = re.compile(r"(?:[a-z0-9]+ )*[a-z]*div")
+ROUTINE = re.compile(r"[<\t]__[a-z_]*(?:div|mod)")
+LOADED = re.compile(r"mov(?:abs)? +\$0x([0-9a-f]+),(%\w+)")
+BEFORE_DIVISION = re.compile(r"mov +[^,]+(?:\([^)]*\))?,%[er]ax|xor +%edx,%edx|cqto|cltd")
 LITERAL = re.compile(r"(0x[0-9a-f_]+|0o[0-7_]+|0b[01_]+|[0-9][0-9_]*)(?:[iu](?:8|16|32|64|size))?")
 
 
@@ -111,11 +123,70 @@ def in_source(folders):
     return seen, listed
 
 
+def first_table(lines):
+    """Where in a function's lines its first table of a switch stands: its end, since the compiler puts tables after the code.
+    None if a jump leads past that, so that it is not told."""
+    inside = {address: at for at, (address, _) in enumerate(lines)}
+    tables = [inside[found.group(1)] for _, text in lines if (found := TABLE.match(text)) and found.group(1) in inside]
+    table = min(tables, default=len(lines))
+    jumps = [inside.get(found.group(1), 0) for _, text in lines[:table] if (found := JUMP.match(text))]
+    return table if all(at < table for at in jumps) else None
+
+
+def known_divisor(lines, at, targets):
+    """The constant by which the instruction divides, or None: it is put into the register right before, on the only way."""
+    register = lines[at][1].split()[-1]
+    after = lines[at][0]
+    for address, text in reversed(lines[max(at - 3, 0):at]):
+        loaded = LOADED.fullmatch(text)
+        if after in targets:
+            return None
+        if loaded and loaded.group(2)[2:].rstrip("d") == register[2:].rstrip("d"):
+            return int(loaded.group(1), 16)
+        if not BEFORE_DIVISION.fullmatch(text):
+            return None
+        after = address
+    return None
+
+
+def in_plain_code(name, text):
+    """How many divisions plain machine code has, and a line for each that is listed."""
+    functions, seen, listed = {}, 0, []
+    for line in text.split("\n"):
+        if head := FUNCTION.fullmatch(line):
+            lines = functions.setdefault(head.group(0), (head.group(1), []))[1]
+        elif found := INSTRUCTION.fullmatch(line):
+            lines.append(found.groups())
+        elif functions and line.startswith("\t"):
+            lines.append(("", line))  # a relocation
+    for function, lines in functions.values():
+        targets = {found.group(1) for _, text in lines if (found := JUMP.match(text))}
+        table = first_table(lines)
+        if table is None:
+            listed.append(f"{name}: {function}: a table before its end")
+        for at, (_, text) in enumerate(lines[:table]):
+            if ROUTINE.search(text):
+                seen += 1
+                listed.append(f"{name}: {function}: {' '.join(text.split())}")
+            elif DIVIDES.match(text):
+                seen += 1
+                divisor = known_divisor(lines, at, targets)
+                if divisor is None or not is_power(divisor) or divisor >= 2**31 and "idiv" in text:
+                    constant = "" if divisor is None else f" by {divisor}"
+                    listed.append(f"{name}: {function}: {' '.join(text.split())}{constant}")
+    if not functions:
+        listed.append(f"{name}: no machine code")
+    return seen, listed
+
+
 def main(arguments):
-    if len(arguments) < 2 or arguments[0] != "source":
-        sys.exit("usage: tools/divisions.py source FOLDER..")
-    seen, listed = in_source(arguments[1:])
-    print("\n".join(listed) or f"source: {seen} divisions and remainders, each by a power of two")
+    if len(arguments) > 1 and arguments[0] == "source":
+        what, (seen, listed) = "source", in_source(arguments[1:])
+    elif len(arguments) == 2 and arguments[0] == "plain":
+        what, (seen, listed) = f"plain code: {arguments[1]}", in_plain_code(arguments[1], sys.stdin.read())
+    else:
+        sys.exit("usage: tools/divisions.py source FOLDER.. | tools/divisions.py plain NAME")
+    print("\n".join(listed) or f"{what}: {seen} divisions and remainders, each by a power of two")
     return 1 if listed else 0
 
 

@@ -1,12 +1,30 @@
 #!/bin/sh
 # Shows that nothing divides but by powers of two (request 04), and lists each place where something does:
-# - source: in the source of every crate, also by a constant, which becomes a multiplication in machine code;
-# - machine: no division instruction and no call of a division routine in the machine code of the library and of override-desk,
-#   what the compiler added and the toolchain's functions that they call too. A division by a constant in those is not seen.
+# - source: in the source of every crate;
+# - machine: in what the library and override-desk are compiled from, the toolchain's functions that they call too; and no
+#   division instruction in their machine code. The first shows a division by a constant, which becomes a multiplication, the
+#   second one that the compiler adds. For the first both are built by Rattle's own compiler at level 0 too, which compiles
+#   each division to an instruction.
 # Usage: tools/no_division.sh [source] [machine]; with no argument both. machine proves and builds first.
 # source needs Python; machine needs rt and objdump too.
 set -eu
 CDPATH= cd -- "$(dirname -- "$0")/.."
+
+# toolchain CRATE WORDS..: runs rt in the crate's folder; where it fails, what it said is shown. rt run also runs what it built:
+# here on an empty strip.
+toolchain() {
+    folder=crates/$1
+    shift
+    (cd "$folder" && rt "$@") </dev/null >target/no_division.log 2>&1 || {
+        cat target/no_division.log >&2
+        return 1
+    }
+}
+
+# compiled CRATE FILE: lists the divisions in what the crate is compiled from; the file was built at level 0.
+compiled() {
+    objdump -dr --no-show-raw-insn "$2" >target/no_division.txt && tools/divisions.py plain "$1" <target/no_division.txt
+}
 
 # disassembled FILE: lists the instructions that divide and the calls of division routines, each with its function.
 disassembled() {
@@ -48,12 +66,13 @@ for part in "$@"; do
         tools/divisions.py source crates/*/src || fault=1
         continue
     fi
+    mkdir -p target
+    toolchain c_api lib --backend rattle --opt-level 0
+    compiled c_api crates/c_api/out/libc_api.a || fault=1
+    toolchain override_desk run --backend rattle --opt-level 0
+    compiled override_desk crates/override_desk/out/override_desk || fault=1
     library=$(tools/library.sh)
-    # rt run also runs what it built: here on an empty strip
-    (cd crates/override_desk && rt run) </dev/null >target/no_division.log 2>&1 || {
-        cat target/no_division.log >&2
-        exit 1
-    }
+    toolchain override_desk run
     for file in "$library" crates/override_desk/out/override_desk; do
         disassembled "$file" || fault=1
     done

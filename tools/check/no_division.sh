@@ -1,6 +1,6 @@
 #!/bin/sh
-# Tries tools/no_division.sh in a small tree of its own: each division that is put in is found, in source or in machine code, and
-# what may stand is passed. Takes two minutes; needs rt, Python, gcc, ar and objdump.
+# Tries tools/no_division.sh in a small tree of its own: each division that is put in is found, in source, in what is compiled
+# or in machine code, and what may stand is passed. Takes five minutes; needs rt, Python, gcc, ar and objdump.
 set -eu
 CDPATH= cd -- "$(dirname -- "$0")/../.."
 tree=$(mktemp -d)
@@ -120,7 +120,31 @@ says 0 source
 grep -qx 'source: 15 divisions and remainders, each by a power of two' said.txt || fail "powers of two"
 echo "source: $(wc -l <want.txt) lines listed, 15 divisions by powers of two passed"
 
-# Machine code: a library and a program, one of them with a division.
+# What is compiled is read from plain machine code; here by hand: status and lines.
+plain() {
+    want=$1
+    shift
+    printf '%s\n' '.globl entry' '.type entry, @function' entry: "$@" ret | gcc -x assembler -c -o plain.o -
+    objdump -dr --no-show-raw-insn plain.o >plain.txt
+    status=0
+    tools/divisions.py plain trial <plain.txt >said.txt 2>said.log || status=$?
+    [ "$status" -eq "$want" ] || fail "status $status of plain code: $*"
+}
+plain 0 'mov $16, %ecx' 'mov %rsi, %rax' 'xor %edx, %edx' 'div %rcx' 'mov $8, %r8d' 'xor %edx, %edx' 'div %r8d'
+grep -qx 'plain code: trial: 2 divisions and remainders, each by a power of two' said.txt || fail "powers of two in plain code"
+plain 1 'mov $12, %ecx' 'xor %edx, %edx' 'div %ecx'
+plain 1 'mov $16, %ecx' 'mov %edi, %ecx' 'xor %edx, %edx' 'div %ecx'
+plain 1 'mov $16, %ecx' '1: xor %edx, %edx' 'div %ecx' 'jne 1b'
+plain 1 'mov $16, %ecx' 'xor %edx, %edx' '1: div %ecx' 'jne 1b'
+plain 1 'mov $16, %r8d' 'xor %edx, %edx' 'div %r9d'
+plain 1 'movabs $0x8000000000000000, %rcx' cqto 'idiv %rcx'
+plain 1 'call __udivti3'
+plain 1 'divsd %xmm1, %xmm0'
+plain 0 'lea 2f(%rip), %rcx' 'jmp *%rax' '2: .byte 0xf7, 0xfd'
+plain 1 'lea 2f(%rip), %rcx' 'jmp 3f' '2: .byte 0xf7, 0xfd' '3: nop'
+echo "plain code: a division found in each of 9 functions, powers of two passed, and a table that reads as a division"
+
+# What is compiled, and its machine code: a library and a program, one of them with a division.
 library() {
     cat >crates/c_api/src/lib.rt <<SOURCE
 #![tactic(auto)]
@@ -134,25 +158,25 @@ SOURCE
 program() {
     cat >crates/override_desk/src/main.rt <<SOURCE
 #![tactic(auto)]
-use std::io;
 use std::io::{Read, Write};
-fn main(rt: HostRuntime) -> io::Result<()> {
+fn main(rt: HostRuntime) {
     let mut space = [0u8; 2];
-    rt.stdin().read(&mut space)?;
+    let Ok(_) = rt.stdin().read(&mut space) else {
+        return;
+    };
     let d = space[0];
     if d != 0 {
         space[0] = $1;
-        rt.stdout().write(&space)?;
+        let _ = rt.stdout().write(&space);
     }
-    Ok(())
 }
 SOURCE
 }
 
-# found PATTERN..: what is listed of machine code begins so, and nothing else is listed.
+# found PATTERN..: what is listed of what is compiled and of machine code begins so, and nothing else is listed.
 found() {
     says 1 machine
-    grep -v 'none divides$' said.txt >found.txt || :
+    grep -v -e 'each by a power of two$' -e 'none divides$' said.txt >found.txt || :
     for pattern; do
         grep -q "^$pattern" found.txt || fail "nothing found as $pattern"
         grep -v "^$pattern" found.txt >left.txt || :
@@ -165,24 +189,28 @@ binary=crates/override_desk/out/override_desk
 library 'n / 16'
 program 'space[1] % 8'
 says 0
-[ "$(grep -c 'each by a power of two$' said.txt)" -eq 1 ] || fail "powers of two in source"
+[ "$(grep -c 'each by a power of two$' said.txt)" -eq 3 ] || fail "powers of two in source and in what is compiled"
 [ "$(grep -c 'none divides$' said.txt)" -eq 2 ] || fail "machine code without a division"
+library 'n / TEN'
+found 'c_api: bogsilver_trial: div %.* by 10$'
 library 'n % d'
-found "$archive: bogsilver_trial: div "
+found 'c_api: bogsilver_trial: div %' "$archive: bogsilver_trial: div "
 library 'n / 0'
 says 1 machine
 grep -q 'not-proved' said.log || fail "a library that is not proved"
 library 'if f64::from((n % 16) as u32) / 3.0 < 0.1 { n } else { d }'
-found "$archive: bogsilver_trial: divsd "
+found 'c_api: bogsilver_trial: divsd' "$archive: bogsilver_trial: divsd "
 library 'n.checked_div(d).unwrap_or(7)'
-found "$archive: bogsilver_trial: div "
+found 'c_api: .*: div %' "$archive: bogsilver_trial: div "
 says 0 source
 library 'd'
 program 'space[1] / 0'
 says 1 machine
 grep -q 'not-proved' said.log || fail "a program that is not proved"
 program 'space[1] / d'
-found "$binary: .*main.*: div "
+found 'override_desk: override_desk::main: div %' "$binary: .*main.*: div "
+program '7; let _ = println!(rt; "{d}")'
+found 'override_desk: core::fmt::int::'
 program '7'
 
 # Machine code alone, by gcc: a signed division, one behind a prefix, a call of a division routine, no code at all, and a
@@ -212,4 +240,4 @@ object cut 'int bogsilver_trial(void) { return 1; }'
 head -c 100 signed.o >no_object.o
 ar rcS cut.a no_object.o
 found "$archive: not disassembled"
-echo "machine: a division found in each of 7 builds; a library and a program unproved, an empty and a broken library refused"
+echo "machine: a division found in each of 9 builds; a library and a program unproved, an empty and a broken library refused"
