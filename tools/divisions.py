@@ -9,9 +9,9 @@ Prints how many were seen if none is listed; else ends with status 1. At that le
 constant too, whose divisor is put into a register right before; names are resolved, and the functions of the toolchain's
 libraries that are called stand there. What the compiler itself computes, as a constant's value, stands in source only.
 
-In source a divisor is seen to be a power of two if it is such a literal, or the name of a constant that is such a literal and
-stands in the same file, which has no module in it, outside every block. Anything else is listed. Comments, byte and text literals,
-contracts and `ghost use` are no code; what cannot be told from code is listed too, and may hide a division after it.
+In source a divisor is seen to be a power of two if it is such a literal, or the name of a constant that is such a literal
+and stands in the same file, which has no module in it, outside every block. Anything else is listed. Comments, byte and text
+literals, contracts and `ghost use` are no code; what cannot be told from code is listed too, and may hide a division after it.
 """
 import glob
 import re
@@ -39,7 +39,7 @@ STATEMENT_END = re.compile(r"\s*[;,)}]")
 FUNCTION = re.compile(r"[0-9a-f]+ <(.*)>:")
 INSTRUCTION = re.compile(r" *([0-9a-f]+):\t(.*?) *")
 JUMP = re.compile(r"(?:[a-z]+ )*j[a-z]+ +([0-9a-f]+) <")
-TABLE = re.compile(r"lea +0x[0-9a-f]+\(%rip\),%\w+ +# ([0-9a-f]+) <")
+TABLE = re.compile(r"lea +0x[0-9a-f]+\(%rip\),%\w+ +# ([0-9a-f]+) <.*\+0x[0-9a-f]+>")
 DIVIDES = re.compile(r"(?:[a-z0-9]+ )*[a-z]*div")
 ROUTINE = re.compile(r"[<\t]__[a-z_]*(?:div|mod)")
 LOADED = re.compile(r"mov(?:abs)? +\$0x([0-9a-f]+),(%\w+)")
