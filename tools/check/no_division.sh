@@ -45,6 +45,7 @@ const UNIT: u64 = 64u64;
 }
 fn slash<'a>(s: &'a [u8], t: &'a [u8]) -> bool { s[0] == b'/' && t[0] == b'\'' && 10 % 8 == 2 }
 fn text(n: u64) -> u64 requires { ⌜ n % 10 < 5 ⌝ } ensures it { λ r. ⌜ r ≡ record { first-at = n / 10 } ⌝ } { let s = b"\"1 / 10"; n /* by */ / /* four */ 4 }
+fn words(n: u64) -> u64 { let s = "\"1 / 10"; let c = '/'; let q = '\''; n / 4 }
 fn raw(n: u64) -> u64 { let s = br"/*"; let t = br#"a" / 10"#; n / 4 }
 fn powers(n: u64) -> u64 {
     let mut m = n / 2 * 3 % SIXTEEN + n / 64u64 - n % 0b100 as u64;
@@ -81,6 +82,7 @@ fn others(n: u64, d: u64) -> u64 {
     m = n / _16; // found
     m = n / SUM; // found
     m = n / 4 % d; // found
+    let q = '"'; m = n / 10; let e = '"'; // found
     m
         / 6 // found
 }
@@ -117,7 +119,7 @@ cmp want.txt found.txt || fail "the lines found in source"
 rm -r crates/c_api/src/another.rt crates/override_desk/src/deep
 sed -i '/^fn others/,$d; /found$/d' crates/c_api/src/lib.rt
 says 0 source
-grep -qx 'source: 15 divisions and remainders, each by a power of two' said.txt || fail "powers of two"
+grep -qx 'source: 16 divisions and remainders, each by a power of two' said.txt || fail "powers of two"
 echo "source: $(wc -l <want.txt) lines listed, 15 divisions by powers of two passed"
 
 # What is compiled is read from plain machine code; here by hand: status and lines.
