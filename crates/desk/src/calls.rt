@@ -24,7 +24,8 @@ fn refuse(d: Desk, code: u8) -> Done
 fn deliver(d: Desk, next: Desk, frames: &[u8], out: &mut [u8]) -> Done
     ensures { Returned (delivered (length out.old) d (accepted next frames.now)) out.old result out.new }
 {
-    if out.len() < frames.len() {
+    let short = out.len() < frames.len();
+    if short {
         return refuse(d, Done::ROOM);
     }
     let count = put_bytes(out, 0, frames);
