@@ -1,7 +1,7 @@
 /*
  * Bogsilver for C: reads and writes frames of Transmission's IPC protocol, version 2, and puts payloads in order.
  *
- * Link with libbogsilver.a, which tools/library.sh builds (x86-64 Linux). The functions allocate nothing, keep nothing
+ * Link with libbogsilver.a, which tools/library.sh builds (Linux, x86-64-v2). The functions allocate nothing, keep nothing
  * between calls and end on every input. They are proved to answer as the rules say. The caller sees to this:
  * - bytes and out are never NULL, even where the length is 0, and have the length that is handed in, at most PTRDIFF_MAX;
  * - out does not overlap bytes, and nothing else writes to either during the call.
@@ -162,7 +162,7 @@ struct bogsilver_walk_answer bogsilver_walk(const uint8_t *bytes, size_t length,
 
 /*
  * Walks as bogsilver_walk, by one loop: the same answer on every input. No function in it calls itself, even through others,
- * and as built here for x86-64 it needs at most 1,392 bytes of stack, whatever the payload. For callers with little stack.
+ * and as built here for x86-64-v2 it needs at most 1,232 bytes of stack, whatever the payload. For callers with little stack.
  */
 struct bogsilver_walk_answer bogsilver_walk_flat(const uint8_t *bytes, size_t length, bool strict);
 
