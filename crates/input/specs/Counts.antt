@@ -1,4 +1,5 @@
--- A count of bytes at the start of a buffer.
+-- To be believed. A count of bytes at the start of a buffer.
+-- Assumes nothing.
 use Rattle.std.specs.Prelude.{◌≡◌, ◌≤◌, ℕ, List, length, take}
 
 -- a list has so many first items: what a slice of a lent buffer needs
