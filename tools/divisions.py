@@ -21,7 +21,7 @@ import sys
 # contract that holds one of these is left, and is listed by its first word.
 NO_CODE = re.compile(r"""
     //[^\n]* | /\*
-    | \bbr(\#*)".*?"\1 | \bb"(?:\\.|[^"\\])*" | \bb'(?:\\x\w\w|\\.|[^'\\\n])'
+    | \bb?r(\#*)".*?"\1 | \bb"(?:\\.|[^"\\])*" | \bb'(?:\\x\w\w|\\.|[^'\\\n])'
     | \bextern\s+"C" | (?<![\w'])'(?:\\x\w\w|\\u\{\w+\}|\\.|[^'\\\n])' | "(?:\\.|[^"\\\n])*"
     | \b(?:requires|ensures|ghost)(?:\s+\w+)?\s*\{(?:(?!--)[^{}"«»]|\{(?!-)(?:(?!--)[^{}"«»])*\})*\}
     | \bghost\s+use\s(?:(?!--|\{-)[^;"«»])*;
@@ -133,6 +133,20 @@ def first_table(lines):
     return table if all(at < table for at in jumps) else None
 
 
+def whole_register(word):
+    """The 64-bit register that a register's name is a part of, without its first letter where it has a name."""
+    name = word.lstrip("%")
+    for pattern, whole in ((r"r(\d+)[dwb]?", r"r\1"), (r"[re]?(ax|bx|cx|dx|si|di|bp|sp)", r"\1"), (r"([abcd])[lh]", r"\1x"), (r"(si|di|bp|sp)l", r"\1")):
+        if found := re.fullmatch(pattern, name):
+            return found.expand(whole)
+    return name
+
+
+def is_wide(word):
+    """Is it 32 or 64 bits of a register: a load of either leaves nothing of what was there."""
+    return bool(re.fullmatch(r"%(?:[re][a-z]+|r\d+d?)", word))
+
+
 def known_divisor(lines, at, targets):
     """The constant by which the instruction divides, or None: it is put into the register right before, on the only way."""
     register = lines[at][1].split()[-1]
@@ -141,7 +155,7 @@ def known_divisor(lines, at, targets):
         loaded = LOADED.fullmatch(text)
         if after in targets:
             return None
-        if loaded and loaded.group(2)[2:].rstrip("d") == register[2:].rstrip("d"):
+        if loaded and is_wide(loaded.group(2)) and whole_register(loaded.group(2)) == whole_register(register):
             return int(loaded.group(1), 16)
         if not BEFORE_DIVISION.fullmatch(text):
             return None

@@ -1,5 +1,5 @@
 #!/bin/sh
-# Proves and builds the library for C and Rust: target/staticlib/libbogsilver.a, for x86-64 Linux.
+# Proves and builds the library for C and Rust: target/staticlib/libbogsilver.a, for Linux on x86-64-v2.
 # C includes include/bogsilver.h, Rust include/bogsilver.rs.
 set -eu
 cd "$(dirname "$0")/.."
