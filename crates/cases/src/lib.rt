@@ -2,8 +2,10 @@
 // A case is one byte of operation, a length (4 bytes, little-endian) and as many bytes of body.
 #![tactic(auto)]
 
-ghost use Rattle.std.specs.Prelude.{◌≡◌, ◌+◌, ◌*◌, ◌<◌, IfOk};
-ghost use Rattle.input.specs.Counts.{IsPrefixLen};
+ghost use Rattle.std.specs.Prelude.{◌≡◌, ◌+◌, ◌*◌, ◌<◌, IfOk, OnOk};
+ghost use Rattle.std.specs.Io.KnownBytes.{Appends};
+ghost use Rattle.std.specs.Fmt.{decimal};
+ghost use Rattle.std.specs.Counts.{IsPrefixLen};
 
 use input::read_full;
 use std::io;
@@ -89,18 +91,24 @@ pub fn take_case<R: Read>(input: &mut R, body: &mut [u8]) -> io::Result<Taken>
 }
 
 // Whether to go on after a case: it was answered. Says so where it was not.
-pub fn go_on<W: Write>(out: &mut W, taken: Taken, answered: bool) -> io::Result<bool> {
+pub fn go_on<W: Write>(out: &mut W, taken: Taken, answered: bool) -> io::Result<bool>
+    ensures { IfOk result (λ on. on ≡ answered) }
+{
     if !answered && !taken.ended {
         print(out, b"case fault\n")?;
     }
     Ok(answered)
 }
 
-pub fn print<W: Write>(out: &mut W, text: &[u8]) -> io::Result<()> {
+pub fn print<W: Write>(out: &mut W, text: &[u8]) -> io::Result<()>
+    ensures { OnOk result (Appends (W.contents out.old) (W.contents out.new) text.now) }
+{
     out.write_all(text)
 }
 
-pub fn print_number<W: Write>(out: &mut W, n: u64) -> io::Result<()> {
+pub fn print_number<W: Write>(out: &mut W, n: u64) -> io::Result<()>
+    ensures { OnOk result (Appends (W.contents out.old) (W.contents out.new) (decimal n)) }
+{
     write!(out, "{n}")
 }
 
