@@ -1,44 +1,49 @@
 -- `bencode::put::store_integer` stores its parts one after the other.
 -- Assumes nothing.
-use mathlib.Core.Path.{◌≡◌, subst, sym}
+use mathlib.Core.Path.{◌≡◌}
 use mathlib.Core.List.{List, [], ◌∷◌}
 use Prim.Native.Nat.{ℕ, ◌+◌, ◌≤◌}
-use lib.IntN.{nat_abs}
+use lib.IntN.{ℤ, nat_abs}
 use lib.ListN.{length}
 use mir.Syntax.{w64}
 use mir.ValLaws.{to_z-of_z}
 use Rattle.octets.specs.Numerals.{decimal}
-use Rattle.bencode.specs.Value.{sign}
-use Rattle.octets.specs.Put.{Wrote}
+use Rattle.bencode.specs.Value.{integer, sign, encode}
+use Rattle.octets.specs.Put.{Wrote, Put}
 use Rattle.octets.proofs.writing.PutLaws.{Writing, start, room_next, next, next_put, finish}
 use Rattle.bencode.proofs.writing.PutParts.{integer_parts, integer_parts_lem}
 use Rattle.bencode.proofs.put.store_integer.Goals as goal
 
+-- nothing is written yet
+none_written : {out : List ℕ} {at : ℕ} (v : ℤ) → at + length (encode (integer v)) ≤ length out → Writing out at (integer_parts v) out at (integer_parts v)
+none_written {out} {at} v room = start out at (integer_parts v) (rw (integer_parts_lem v) room)
+
+-- the `i` is written
+letter_written : {out b : List ℕ} {at o : ℕ} (v : ℤ) → at + length (encode (integer v)) ≤ length out → Wrote out at (105 ∷ []) b o
+    → Writing out at (integer_parts v) b o (sign v ∷ decimal (nat_abs v) ∷ (101 ∷ []) ∷ [])
+letter_written v room letter = next (none_written v room) letter
+
+-- the `i`, the sign and the digits are written, the last two told of `v'`, which is `v`
+digits_written : {out b b' b'' : List ℕ} {at o o' o'' magnitude : ℕ} {v v' : ℤ} → v' ≡ v → at + length (encode (integer v)) ≤ length out
+    → Wrote out at (105 ∷ []) b o → Wrote b o (sign v') b' o' → magnitude ≡ nat_abs v' → Put b' o' (decimal magnitude) b'' o''
+    → Writing out at (integer_parts v) b'' o'' ((101 ∷ []) ∷ [])
+digits_written {v = v} same room letter minus absolute digits =
+    next_put (next (letter_written v room letter) (rw same at minus)) (rw (absolute, same) at digits)
+
 pub store_byte-o-requires : goal.store_byte-o-requires
-store_byte-o-requires c =
-    let w0 : Writing c.args.out.now c.args.at (integer_parts c.args.v) c.args.out.now c.args.at (integer_parts c.args.v) = start _ _ _ (subst (λ (l : List ℕ). c.args.at + length l ≤ length c.args.out.now) (sym (integer_parts_lem c.args.v)) c.requires) in
-    room_next w0
+store_byte-o-requires c = room_next (none_written c.args.v c.requires)
 
 pub store_sign-o-requires : goal.store_sign-o-requires
 store_sign-o-requires c =
-    let w0 : Writing c.args.out.now c.args.at (integer_parts c.args.v) c.args.out.now c.args.at (integer_parts c.args.v) = start _ _ _ (subst (λ (l : List ℕ). c.args.at + length l ≤ length c.args.out.now) (sym (integer_parts_lem c.args.v)) c.requires) in
-    let w1 : Writing c.args.out.now c.args.at (integer_parts c.args.v) c.store_byte-o.new.out c.store_byte-o.result (sign c.args.v ∷ decimal (nat_abs c.args.v) ∷ (101 ∷ []) ∷ []) = next w0 c.store_byte-o.ensures in
-    rw (to_z-of_z w64 c.args.v c.ranges.v) (room_next w1)
+    rw (to_z-of_z w64 c.args.v c.ranges.v) (room_next (letter_written c.args.v c.requires c.store_byte-o.ensures))
 
 pub store_byte-requires : goal.store_byte-requires
 store_byte-requires c =
-    let w0 : Writing c.args.out.now c.args.at (integer_parts c.args.v) c.args.out.now c.args.at (integer_parts c.args.v) = start _ _ _ (subst (λ (l : List ℕ). c.args.at + length l ≤ length c.args.out.now) (sym (integer_parts_lem c.args.v)) c.requires) in
-    let w1 : Writing c.args.out.now c.args.at (integer_parts c.args.v) c.store_byte-o.new.out c.store_byte-o.result (sign c.args.v ∷ decimal (nat_abs c.args.v) ∷ (101 ∷ []) ∷ []) = next w0 c.store_byte-o.ensures in
-    let w2 : Writing c.args.out.now c.args.at (integer_parts c.args.v) c.store_sign-o.new.out c.store_sign-o.result (decimal (nat_abs c.args.v) ∷ (101 ∷ []) ∷ []) = next w1 (rw (to_z-of_z w64 c.args.v c.ranges.v) at c.store_sign-o.ensures) in
-    let w3 : Writing c.args.out.now c.args.at (integer_parts c.args.v) c.put_decimal-o.new.out c.put_decimal-o.result ((101 ∷ []) ∷ []) = let m : c.magnitude.result ≡ nat_abs c.args.v = rw (to_z-of_z w64 c.args.v c.ranges.v) at c.magnitude.ensures in
-    next_put w2 (rw m at c.put_decimal-o.ensures) in
-    room_next w3
+    let same = to_z-of_z w64 c.args.v c.ranges.v in
+    room_next (digits_written same c.requires c.store_byte-o.ensures c.store_sign-o.ensures c.magnitude.ensures c.put_decimal-o.ensures)
 
 pub returns : goal.returns
 returns c =
-    let w0 : Writing c.args.out.now c.args.at (integer_parts c.args.v) c.args.out.now c.args.at (integer_parts c.args.v) = start _ _ _ (subst (λ (l : List ℕ). c.args.at + length l ≤ length c.args.out.now) (sym (integer_parts_lem c.args.v)) c.requires) in
-    let w1 : Writing c.args.out.now c.args.at (integer_parts c.args.v) c.store_byte-o.new.out c.store_byte-o.result (sign c.args.v ∷ decimal (nat_abs c.args.v) ∷ (101 ∷ []) ∷ []) = next w0 c.store_byte-o.ensures in
-    let w2 : Writing c.args.out.now c.args.at (integer_parts c.args.v) c.store_sign-o.new.out c.store_sign-o.result (decimal (nat_abs c.args.v) ∷ (101 ∷ []) ∷ []) = next w1 (rw (to_z-of_z w64 c.args.v c.ranges.v) at c.store_sign-o.ensures) in
-    let w3 : Writing c.args.out.now c.args.at (integer_parts c.args.v) c.put_decimal-o.new.out c.put_decimal-o.result ((101 ∷ []) ∷ []) = let m : c.magnitude.result ≡ nat_abs c.args.v = rw (to_z-of_z w64 c.args.v c.ranges.v) at c.magnitude.ensures in
-    next_put w2 (rw m at c.put_decimal-o.ensures) in
-    subst (λ (l : List ℕ). Wrote c.args.out.now c.args.at l c.store_byte.new.out c.store_byte.result) (integer_parts_lem c.args.v) (finish (next w3 c.store_byte.ensures))
+    let same = to_z-of_z w64 c.args.v c.ranges.v in
+    let digits = digits_written same c.requires c.store_byte-o.ensures c.store_sign-o.ensures c.magnitude.ensures c.put_decimal-o.ensures in
+    rw (integer_parts_lem c.args.v) at (finish (next digits c.store_byte.ensures))
