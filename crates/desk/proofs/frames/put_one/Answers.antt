@@ -6,7 +6,10 @@ use mathlib.Core.Bool.{true}
 use mathlib.Core.List.{List, [], ◌∷◌}
 use native.Mathlib.Omega.{arith}
 use lib.ListN.{length, replicate}
-use Rattle.bencode.specs.Value.{encode_all}
+use mir.Syntax.{w64}
+use mir.Val.{to_z}
+use Rattle.octets.specs.Put.{Put}
+use Rattle.bencode.specs.Value.{integer, encode, encode_all}
 use Rattle.octets.proofs.writing.PutLaws.{Writing, start, next_put, finish}
 use Rattle.bencode.proofs.scalars.Ranges.{natural_machine}
 use Rattle.desk.specs.Watch.{is_id}
@@ -28,43 +31,26 @@ blank = replicate 479 0
 abbrev Left : ℕ → List ℕ → ℕ → List (List ℕ) → Type 0
 Left id list o rest = Writing blank 0 (list_parts (id ∷ [])) list o rest
 
+-- the list stands at the front, once its start, its item and its end are put
+front : (id : ℕ) {started added ended : List ℕ} {i j n : ℕ} → is_id id ≡ true → id < 2 ^ 63
+    → Put blank 0 (108 ∷ []) started i → Put started i (encode (integer (to_z w64 id))) added j → Put added j (101 ∷ []) ended n
+    → Front (id_list (id ∷ [])) ended n
+front id h small put_start put_item put_end =
+    let nothing_put : Left id blank 0 (list_parts (id ∷ [])) = start blank 0 (list_parts (id ∷ [])) (rw (list_parts_lem (id ∷ [])) (omega (arith, room id h))) in
+    let item : encode (integer (to_z w64 id)) ≡ encode_all (values (id ∷ [])) = rw (natural_machine id small) (one_item id) in
+    front_wrote (room id h) (rw (list_parts_lem (id ∷ [])) at (finish (next_put (next_put (next_put nothing_put put_start) (rw item at put_item)) put_end)))
+
 pub slice_bounds-list-end : goal.slice_bounds-list-end
-slice_bounds-list-end c =
-    let w0 : Left c.args.id blank 0 (list_parts (c.args.id ∷ [])) = start blank 0 (list_parts (c.args.id ∷ [])) (rw (list_parts_lem (c.args.id ∷ [])) (omega (arith, room c.args.id c.requires.1))) in
-    let w1 : Left c.args.id c.put_bytes-o.new.out c.put_bytes-o.result (encode_all (values (c.args.id ∷ [])) ∷ (101 ∷ []) ∷ []) = next_put w0 c.put_bytes-o.ensures in
-    let w2 : Left c.args.id c.put_integer-o.new.out c.put_integer-o.result ((101 ∷ []) ∷ []) = (let small : c.args.id < 2 ^ 63 = omega arith in
-    next_put w1 (rw (natural_machine c.args.id small, one_item c.args.id) at c.put_integer-o.ensures)) in
-    let w3 : Left c.args.id c.put_bytes-n.new.out c.put_bytes-n.result [] = next_put w2 c.put_bytes-n.ensures in
-    let front : Front (id_list (c.args.id ∷ [])) c.put_bytes-n.new.out c.put_bytes-n.result = front_wrote (room c.args.id c.requires.1) (rw (list_parts_lem (c.args.id ∷ [])) at (finish w3)) in
-    front.inside
+slice_bounds-list-end c = (front c.args.id c.requires.1 (omega arith) c.put_bytes-o.ensures c.put_integer-o.ensures c.put_bytes-n.ensures).inside
 
 pub slice_bounds-put_message-end : goal.slice_bounds-put_message-end
-slice_bounds-put_message-end c =
-    let w0 : Left c.args.id blank 0 (list_parts (c.args.id ∷ [])) = start blank 0 (list_parts (c.args.id ∷ [])) (rw (list_parts_lem (c.args.id ∷ [])) (omega (arith, room c.args.id c.requires.1))) in
-    let w1 : Left c.args.id c.put_bytes-o.new.out c.put_bytes-o.result (encode_all (values (c.args.id ∷ [])) ∷ (101 ∷ []) ∷ []) = next_put w0 c.put_bytes-o.ensures in
-    let w2 : Left c.args.id c.put_integer-o.new.out c.put_integer-o.result ((101 ∷ []) ∷ []) = (let small : c.args.id < 2 ^ 63 = omega arith in
-    next_put w1 (rw (natural_machine c.args.id small, one_item c.args.id) at c.put_integer-o.ensures)) in
-    let w3 : Left c.args.id c.put_bytes-n.new.out c.put_bytes-n.result [] = next_put w2 c.put_bytes-n.ensures in
-    let front : Front (id_list (c.args.id ∷ [])) c.put_bytes-n.new.out c.put_bytes-n.result = front_wrote (room c.args.id c.requires.1) (rw (list_parts_lem (c.args.id ∷ [])) at (finish w3)) in
-    front_count front
+slice_bounds-put_message-end c = front_count (front c.args.id c.requires.1 (omega arith) c.put_bytes-o.ensures c.put_integer-o.ensures c.put_bytes-n.ensures)
 
 pub put_message-requires : goal.put_message-requires
 put_message-requires c =
-    let w0 : Left c.args.id blank 0 (list_parts (c.args.id ∷ [])) = start blank 0 (list_parts (c.args.id ∷ [])) (rw (list_parts_lem (c.args.id ∷ [])) (omega (arith, room c.args.id c.requires.1))) in
-    let w1 : Left c.args.id c.put_bytes-o.new.out c.put_bytes-o.result (encode_all (values (c.args.id ∷ [])) ∷ (101 ∷ []) ∷ []) = next_put w0 c.put_bytes-o.ensures in
-    let w2 : Left c.args.id c.put_integer-o.new.out c.put_integer-o.result ((101 ∷ []) ∷ []) = (let small : c.args.id < 2 ^ 63 = omega arith in
-    next_put w1 (rw (natural_machine c.args.id small, one_item c.args.id) at c.put_integer-o.ensures)) in
-    let w3 : Left c.args.id c.put_bytes-n.new.out c.put_bytes-n.result [] = next_put w2 c.put_bytes-n.ensures in
-    let front : Front (id_list (c.args.id ∷ [])) c.put_bytes-n.new.out c.put_bytes-n.result = front_wrote (room c.args.id c.requires.1) (rw (list_parts_lem (c.args.id ∷ [])) at (finish w3)) in
+    let list = front c.args.id c.requires.1 (omega arith) c.put_bytes-o.ensures c.put_integer-o.ensures c.put_bytes-n.ensures in
     let few = one_id c.args.id c.requires.1 in
-    rw front.front (ids_writable c.args.tag c.requires.2 c.args.key (c.args.id ∷ []) c.requires.0 few.0 few.1)
+    rw list.front (ids_writable c.args.tag c.requires.2 c.args.key (c.args.id ∷ []) c.requires.0 few.0 few.1)
 
 pub returns : goal.returns
-returns c =
-    let w0 : Left c.args.id blank 0 (list_parts (c.args.id ∷ [])) = start blank 0 (list_parts (c.args.id ∷ [])) (rw (list_parts_lem (c.args.id ∷ [])) (omega (arith, room c.args.id c.requires.1))) in
-    let w1 : Left c.args.id c.put_bytes-o.new.out c.put_bytes-o.result (encode_all (values (c.args.id ∷ [])) ∷ (101 ∷ []) ∷ []) = next_put w0 c.put_bytes-o.ensures in
-    let w2 : Left c.args.id c.put_integer-o.new.out c.put_integer-o.result ((101 ∷ []) ∷ []) = (let small : c.args.id < 2 ^ 63 = omega arith in
-    next_put w1 (rw (natural_machine c.args.id small, one_item c.args.id) at c.put_integer-o.ensures)) in
-    let w3 : Left c.args.id c.put_bytes-n.new.out c.put_bytes-n.result [] = next_put w2 c.put_bytes-n.ensures in
-    let front : Front (id_list (c.args.id ∷ [])) c.put_bytes-n.new.out c.put_bytes-n.result = front_wrote (room c.args.id c.requires.1) (rw (list_parts_lem (c.args.id ∷ [])) at (finish w3)) in
-    rw front.front at c.put_message.ensures
+returns c = rw (front c.args.id c.requires.1 (omega arith) c.put_bytes-o.ensures c.put_integer-o.ensures c.put_bytes-n.ensures).front at c.put_message.ensures
