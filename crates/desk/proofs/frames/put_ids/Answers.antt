@@ -1,30 +1,27 @@
 -- `desk::frames::put_ids` meets its contract.
 -- Assumes nothing.
-use Prim.Native.Nat.{ℕ}
+use Prim.Native.Nat.{ℕ, ◌≤◌}
 use mathlib.Core.List.{List, [], ◌∷◌}
 use native.Mathlib.Omega.{arith}
+use lib.ListN.{length}
+use Rattle.octets.specs.Put.{Put}
 use Rattle.bencode.specs.Value.{encode_all}
 use Rattle.octets.proofs.writing.PutLaws.{Writing, start, room_next, next, next_put, finish}
 use Rattle.desk.specs.Watch.{pick_ids}
 use Rattle.desk.specs.Record.{watched}
-use Rattle.desk.specs.Command.{values}
+use Rattle.desk.specs.Command.{values, id_list}
 use Rattle.desk.proofs.writing.ListParts.{list_parts, list_parts_lem}
 use Rattle.desk.proofs.frames.put_ids.Goals as goal
 
+-- what is left to put, once the start of the list is
+started : (ids : List ℕ) {before after : List ℕ} {o : ℕ} → length (id_list ids) ≤ length before → Put before 0 (108 ∷ []) after o
+    → Writing before 0 (list_parts ids) after o (encode_all (values ids) ∷ (101 ∷ []) ∷ [])
+started ids {before} room put_start = next_put (start before 0 (list_parts ids) (rw (list_parts_lem ids) (omega (arith, room)))) put_start
+
 pub put_items-o-requires : goal.put_items-o-requires
-put_items-o-requires c =
-    let picked_ids : List ℕ = pick_ids c.args.pick (watched c.args.d) in
-    let Left : List ℕ → ℕ → List (List ℕ) → Type 0 = λ out o rest. Writing c.args.out.now 0 (list_parts picked_ids) out o rest in
-    let w0 : Left c.args.out.now 0 (list_parts picked_ids) = start c.args.out.now 0 (list_parts picked_ids) (rw (list_parts_lem picked_ids) (omega (arith, c.requires.1))) in
-    let w1 : Left c.put_bytes-o.new.out c.put_bytes-o.result (encode_all (values picked_ids) ∷ (101 ∷ []) ∷ []) = next_put w0 c.put_bytes-o.ensures in
-    (c.requires.0, room_next w1)
+put_items-o-requires c = (c.requires.0, room_next (started (pick_ids c.args.pick (watched c.args.d)) c.requires.1 c.put_bytes-o.ensures))
 
 pub returns : goal.returns
 returns c =
-    let picked_ids : List ℕ = pick_ids c.args.pick (watched c.args.d) in
-    let Left : List ℕ → ℕ → List (List ℕ) → Type 0 = λ out o rest. Writing c.args.out.now 0 (list_parts picked_ids) out o rest in
-    let w0 : Left c.args.out.now 0 (list_parts picked_ids) = start c.args.out.now 0 (list_parts picked_ids) (rw (list_parts_lem picked_ids) (omega (arith, c.requires.1))) in
-    let w1 : Left c.put_bytes-o.new.out c.put_bytes-o.result (encode_all (values picked_ids) ∷ (101 ∷ []) ∷ []) = next_put w0 c.put_bytes-o.ensures in
-    let w2 : Left c.put_items-o.new.out c.put_items-o.result ((101 ∷ []) ∷ []) = next w1 c.put_items-o.ensures in
-    let w3 : Left c.put_bytes.new.out c.put_bytes.result [] = next_put w2 c.put_bytes.ensures in
-    rw (list_parts_lem picked_ids) at (finish w3)
+    let ids = pick_ids c.args.pick (watched c.args.d) in
+    rw (list_parts_lem ids) at (finish (next_put (next (started ids c.requires.1 c.put_bytes-o.ensures) c.put_items-o.ensures) c.put_bytes.ensures))
