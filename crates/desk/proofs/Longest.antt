@@ -91,14 +91,14 @@ raise_accepted : (room : ℕ) → longest_frames ≤ room → outcome (Call.Rais
 unfolding desk_after commands_of
 raise_accepted room h =
     whole_outcome (Call.Raise chosen) room first
-    (record { is_sound_lem = first_sound; first = ap (λ (x : ℕ). not (eqb x 0)) chosen_watched.1; some_stands = refl; limit = refl; id = chosen_watched.0 })
+    (record { is_sound = first_sound; first = ap (λ (x : ℕ). not (eqb x 0)) chosen_watched.1; some_stands = refl; limit = refl; id = chosen_watched.0 })
     refl h
 
 clear_accepted : (room : ℕ) → longest_frames ≤ room → outcome Call.Clear room raised ≡ accepted (with_override 0 raised) (frames_of (clear_commands raised))
 unfolding desk_after commands_of
 clear_accepted room h =
     whole_outcome Call.Clear room raised
-    (record { is_sound_lem = raised_sound; first = refl; some_stands = unfold with_override in refl; limit = refl; id = refl })
+    (record { is_sound = raised_sound; first = refl; some_stands = unfold with_override in refl; limit = refl; id = refl })
     refl h
 
 pub longest_reached : LongestReached

@@ -63,12 +63,12 @@ record KeepsSound (o : Outcome (List Command)) : Type 0 where
 
 accepted_sound : (c : Call) (d : Desk) → Accepted c d → Sound (desk_after c d)
 unfolding desk_after
-accepted_sound (Call.Down n) d ok = down_sound d n (sound_parts d ok.is_sound_lem) ok.limit
-accepted_sound (Call.Up n) d ok = up_sound d n (sound_parts d ok.is_sound_lem) ok.limit
-accepted_sound (Call.Start x) d ok = running_sound d x true (sound_parts d ok.is_sound_lem) ok.id
-accepted_sound (Call.Stop x) d ok = running_sound d x false (sound_parts d ok.is_sound_lem) ok.id
-accepted_sound (Call.Raise x) d ok = override_sound d x (sound_parts d ok.is_sound_lem) (ap (λ b. eqb x 0 || b) ok.id ∙ or-true (eqb x 0))
-accepted_sound Call.Clear d ok = override_sound d 0 (sound_parts d ok.is_sound_lem) refl
+accepted_sound (Call.Down n) d ok = down_sound d n (sound_parts d ok.is_sound) ok.limit
+accepted_sound (Call.Up n) d ok = up_sound d n (sound_parts d ok.is_sound) ok.limit
+accepted_sound (Call.Start x) d ok = running_sound d x true (sound_parts d ok.is_sound) ok.id
+accepted_sound (Call.Stop x) d ok = running_sound d x false (sound_parts d ok.is_sound) ok.id
+accepted_sound (Call.Raise x) d ok = override_sound d x (sound_parts d ok.is_sound) (ap (λ b. eqb x 0 || b) ok.id ∙ or-true (eqb x 0))
+accepted_sound Call.Clear d ok = override_sound d 0 (sound_parts d ok.is_sound) refl
 
 plan_keeps : (c : Call) (d : Desk) → Accepted c d → KeepsSound (plan c d)
 unfolding plan

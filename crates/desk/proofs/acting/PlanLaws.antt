@@ -32,7 +32,7 @@ one_length c h = subst (λ (l : List ℕ). length l ≤ longest_frames) (sym (on
 
 -- an ID that is watched is a torrent ID
 pub watched_id : (c : Call) (d : Desk) (x : ℕ) → Accepted c d → id_fits (Call.Start x) d ≡ id_fits c d → is_id x ≡ true
-watched_id c d x ok e = has_id_lem x (watched d) (sound_parts d ok.is_sound_lem).ids (rw e ok.id)
+watched_id c d x ok e = has_id_lem x (watched d) (sound_parts d ok.is_sound).ids (rw e ok.id)
 
 -- the frames of an accepted call are no longer than the longest
 pub commands_length : (c : Call) (d : Desk) → Accepted c d → length (frames_of (commands_of c d)) ≤ longest_frames
@@ -41,8 +41,8 @@ commands_length (Call.Down n) d ok = one_length (Command.set_down n) (limit_room
 commands_length (Call.Up n) d ok = one_length (Command.set_up n) (limit_room no_tag (omega arith) uplimit_key n (inr refl) ok.limit)
 commands_length (Call.Start x) d ok = one_length (Command.start (x ∷ [])) (one_room no_tag (omega arith) start_key x (inl refl) (watched_id (Call.Start x) d x ok refl))
 commands_length (Call.Stop x) d ok = one_length (Command.stop (x ∷ [])) (one_room no_tag (omega arith) stop_key x (inr refl) (watched_id (Call.Stop x) d x ok refl))
-commands_length (Call.Raise x) d ok = raise_length d x ok.is_sound_lem ok.id
-commands_length Call.Clear d ok = clear_length d ok.is_sound_lem
+commands_length (Call.Raise x) d ok = raise_length d x ok.is_sound ok.id
+commands_length Call.Clear d ok = clear_length d ok.is_sound
 
 -- a request's one frame, put where there is room
 pub put_one_frame : (c : Command) {before after : List ℕ} {n : ℕ} → longest_frames ≤ length before → length (frames_of (c ∷ [])) ≤ longest_frames → Put before 0 (command_frame no_tag c) after n

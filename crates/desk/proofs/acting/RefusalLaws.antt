@@ -40,7 +40,7 @@ rows_38 false r k l i t e = absurd (false≢true t)
 
 -- what a call has passed that is not refused
 pub record Accepted (c : Call) (d : Desk) : Type 0 where
-  pub is_sound_lem : sound d ≡ true
+  pub is_sound : sound d ≡ true
   pub first : raises_again c d ≡ false
   pub some_stands : clears_none c d ≡ false
   pub limit : limit_fits c ≡ true
@@ -51,7 +51,7 @@ module _ (c : Call) (d : Desk) where
   unfolding call_fault
   accepted_call e =
       let p = rows_passed (sound d) (raises_again c d) (clears_none c d) (limit_fits c) (id_fits c d) e in
-      record { is_sound_lem = p.0; first = p.1; some_stands = p.2; limit = p.3; id = p.4 }
+      record { is_sound = p.0; first = p.1; some_stands = p.2; limit = p.3; id = p.4 }
 
   pub fault_code : (call_fault c d ≡ 0 → ⊥) → 2 ≤ call_fault c d
   unfolding call_fault
@@ -91,7 +91,7 @@ module _ (c : Call) (d : Desk) where
           fault_0 i = rw (s, r, k, l, i) refl
 
   pub fault_none : Accepted c d → call_fault c d ≡ 0
-  fault_none a = sym (fault_0 a.is_sound_lem a.first a.some_stands a.limit a.id)
+  fault_none a = sym (fault_0 a.is_sound a.first a.some_stands a.limit a.id)
 
 -- a call that is known to be a certain one
 pub accepted_as : {c c' : Call} (d : Desk) → c ≡ c' → call_fault c d ≡ 0 → Accepted c' d

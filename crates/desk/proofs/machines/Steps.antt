@@ -133,10 +133,10 @@ module _ (watch : List Watch) (others : ℕ → Bool) where
       → Step (Call.Raise y) d m (accepted (with_override y d) (raise_commands y d))
   unfolding request with_override raise_commands is_limit alone_after
   raise_step d m y ok want =
-      let y-id = has_id_lem y (watched d) (sound_parts d ok.is_sound_lem).ids ok.id in
+      let y-id = has_id_lem y (watched d) (sound_parts d ok.is_sound).ids ok.id in
       record {
         desired = override_desired d m y want;
-        sendable = four_sendable unlimited unlimited _ (y ∷ []) refl refl (pick_few (λ v. not (eqb v.id y)) d ok.is_sound_lem) (one_id y y-id);
+        sendable = four_sendable unlimited unlimited _ (y ∷ []) refl refl (pick_few (λ v. not (eqb v.id y)) d ok.is_sound) (one_id y y-id);
         obeyed =
             ap (λ b. obey_all (raise_commands y d) (cond b (overridden watch others d.override_id) m)) ok.first
             ∙ raise_obeyed watch others d m y want.ids (desired_kept watch others d m want)
@@ -147,15 +147,15 @@ module _ (watch : List Watch) (others : ℕ → Bool) where
       → Step Call.Clear d m (accepted (with_override 0 d) (clear_commands d))
   unfolding request with_override clear_commands alone_after
   clear_step d m ok want =
-      let parts = sound_parts d ok.is_sound_lem in
+      let parts = sound_parts d ok.is_sound in
       let standing : stands d ≡ true = not-false (stands d) ok.some_stands in
       record {
         desired = override_desired d m 0 want;
-        sendable = four_sendable d.down d.up _ _ parts.down parts.up (pick_few (λ v. not v.running) d ok.is_sound_lem) (pick_few (λ v. v.running) d ok.is_sound_lem);
+        sendable = four_sendable d.down d.up _ _ parts.down parts.up (pick_few (λ v. not v.running) d ok.is_sound) (pick_few (λ v. v.running) d ok.is_sound);
         obeyed =
             ap (λ b. obey_all (clear_commands d) (cond b (overridden watch others d.override_id) m)) standing
             ∙ clear_obeyed watch others d (overridden watch others d.override_id) m want parts.ids
-            (overridden_kept watch others d.override_id (override_watched d m ok.is_sound_lem want standing));
+            (overridden_kept watch others d.override_id (override_watched d m ok.is_sound want standing));
       }
 
   -- an accepted call
@@ -168,10 +168,10 @@ module _ (watch : List Watch) (others : ℕ → Bool) where
       routine_step (Call.Up n) d m (with_up n d) (Command.set_up n) refl ok.limit
       (record { ids = want.ids; down = want.down; up = refl; runs = want.runs }) refl
   plan_step (Call.Start y) d m want ok = unfold with_running in
-      routine_step (Call.Start y) d m (with_running y true d) (Command.start (y ∷ [])) refl (one_id y (has_id_lem y (watched d) (sound_parts d ok.is_sound_lem).ids ok.id))
+      routine_step (Call.Start y) d m (with_running y true d) (Command.start (y ∷ [])) refl (one_id y (has_id_lem y (watched d) (sound_parts d ok.is_sound).ids ok.id))
       (running_desired d m y true (Command.start (y ∷ [])) want ok.id refl refl (λ z. started (eqb y z) (m.runs z))) refl
   plan_step (Call.Stop y) d m want ok = unfold with_running in
-      routine_step (Call.Stop y) d m (with_running y false d) (Command.stop (y ∷ [])) refl (one_id y (has_id_lem y (watched d) (sound_parts d ok.is_sound_lem).ids ok.id))
+      routine_step (Call.Stop y) d m (with_running y false d) (Command.stop (y ∷ [])) refl (one_id y (has_id_lem y (watched d) (sound_parts d ok.is_sound).ids ok.id))
       (running_desired d m y false (Command.stop (y ∷ [])) want ok.id refl refl (λ z. stopped (eqb y z) (m.runs z))) refl
   plan_step (Call.Raise y) d m want ok = raise_step d m y ok want
   plan_step Call.Clear d m want ok = clear_step d m ok want

@@ -8,10 +8,10 @@ use Rattle.desk.proofs.records.SoundLaws.{sound_parts}
 use Rattle.desk.proofs.plan.desk_after.Goals as goal
 
 pub with_running-requires : goal.with_running-requires
-with_running-requires c = let ok = accepted_as c.args.d c.in-Start.is c.requires in ((sound_parts c.args.d ok.is_sound_lem).few, ok.id)
+with_running-requires c = let ok = accepted_as c.args.d c.in-Start.is c.requires in ((sound_parts c.args.d ok.is_sound).few, ok.id)
 
 pub with_running-requires-in-Stop : goal.with_running-requires-in-Stop
-with_running-requires-in-Stop c = let ok = accepted_as c.args.d c.in-Stop.is c.requires in ((sound_parts c.args.d ok.is_sound_lem).few, ok.id)
+with_running-requires-in-Stop c = let ok = accepted_as c.args.d c.in-Stop.is c.requires in ((sound_parts c.args.d ok.is_sound).few, ok.id)
 
 pub returns-in-Down : goal.returns-in-Down
 unfolding desk_after

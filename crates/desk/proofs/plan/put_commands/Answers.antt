@@ -27,10 +27,10 @@ pub put_one-requires-in-Stop : goal.put_one-requires-in-Stop
 put_one-requires-in-Stop c = let ok = accepted_as c.args.d c.in-Stop.is c.requires.0 in (inr refl, watched_id (Call.Stop c.in-Stop.id) c.args.d c.in-Stop.id ok refl, omega arith)
 
 pub put_raise-requires : goal.put_raise-requires
-put_raise-requires c = let ok = accepted_as c.args.d c.in-Raise.is c.requires.0 in (ok.is_sound_lem, ok.id, omega (arith, raise_length c.args.d c.in-Raise.id ok.is_sound_lem ok.id, c.requires.1))
+put_raise-requires c = let ok = accepted_as c.args.d c.in-Raise.is c.requires.0 in (ok.is_sound, ok.id, omega (arith, raise_length c.args.d c.in-Raise.id ok.is_sound ok.id, c.requires.1))
 
 pub put_clear-requires : goal.put_clear-requires
-put_clear-requires c = let ok = accepted_as c.args.d c.in-Clear.is c.requires.0 in (ok.is_sound_lem, omega (arith, clear_length c.args.d ok.is_sound_lem, c.requires.1))
+put_clear-requires c = let ok = accepted_as c.args.d c.in-Clear.is c.requires.0 in (ok.is_sound, omega (arith, clear_length c.args.d ok.is_sound, c.requires.1))
 
 pub returns-in-Down : goal.returns-in-Down
 unfolding commands_of command_frame
