@@ -14,6 +14,7 @@ use Rattle.ipc.specs.Header.{largest_payload}
 use Rattle.ipc.specs.Keys.{key_text, class_of}
 use Rattle.ipc.specs.Writer.{encode_given, encode_tag, payload_of, fitted, message_fault, write_answer}
 use Rattle.ipc.proofs.writing.WriterLaws.{payload_length, frame_length, leaves_refused, leaves_same, leaves_count, SizeOf, length_refused, length_small, length_room}
+use Rattle.ipc.proofs.writer.write.Goals.{Else-code-ne0, After-tag_length}
 use Rattle.ipc.proofs.writer.write.Goals as goal
 
 -- ---- the first refusal, whatever the length
@@ -39,62 +40,61 @@ module _ (key : ℕ) (given : Given) (s : List ℕ) (tag k v t : ℕ) (class : C
     is = λ (h : k + v + t + 2 ≤ largest_payload). omega (arith, h, k-is, value_is, t-is, payload_length key given s tag);
   }
 
+-- ---- the code at its places
+sized_at : (c : After-tag_length) →
+    let a = c.args in
+    SizeOf (c.key_length.result + c.value_length.result + c.tag_length.result + 2) (payload_of a.key a.given a.s.now a.tag)
+sized_at c =
+    let a = c.args in
+    sized a.key a.given a.s.now a.tag c.key_length.result c.value_length.result c.tag_length.result c.class_of.result c.class_of.ensures c.key_length.ensures.0 c.value_length.ensures c.tag_length.ensures.0
+
+-- the sum is far below the largest number
+bound : (c : After-tag_length) → c.key_length.result + c.value_length.result + c.tag_length.result + 2 < 100000
+bound c = omega (arith, c.key_length.ensures.1, c.value_length.ensures, c.tag_length.ensures.1)
+
+answer_is : (c : Else-code-ne0) →
+    let a = c.args in
+    write_answer a.key a.given a.s.now a.tag (length a.out.now) ≡ fitted (payload_of a.key a.given a.s.now a.tag) (length a.out.now)
+answer_is c =
+    let a = c.args in
+    passed a.key a.given a.s.now a.tag (length a.out.now) c.message_fault-code.result c.message_fault-code.ensures c.if-code-ne0.false
+
 pub returns-then-code-ne0 : goal.returns-then-code-ne0
 returns-then-code-ne0 c =
     let a = c.args in
     leaves_refused _ _ _ _ (refused a.key a.given a.s.now a.tag (length a.out.now) c.message_fault-code.result c.message_fault-code.ensures c.if-code-ne0.true)
 
 pub overflow_add-size : goal.overflow_add-size
-overflow_add-size c = let v : c.value_length.result ≤ largest_payload + 1 = omega (arith, c.value_length.ensures) in record { fits = omega (arith, v, c.key_length.ensures.1) }
+overflow_add-size c = record { fits = omega (arith, c.value_length.ensures, c.key_length.ensures.1) }
 
 pub overflow_add-size-2 : goal.overflow_add-size-2
-overflow_add-size-2 c =
-    let bound : c.key_length.result + c.value_length.result + c.tag_length.result + 2 < 100000 = (let v : c.value_length.result ≤ largest_payload + 1 = omega (arith, c.value_length.ensures) in omega (arith, v, c.key_length.ensures.1, c.tag_length.ensures.1)) in
-    record { fits = omega (arith, bound) }
+overflow_add-size-2 c = record { fits = omega (arith, bound c) }
 
 pub overflow_add-size-3 : goal.overflow_add-size-3
-overflow_add-size-3 c =
-    let bound : c.key_length.result + c.value_length.result + c.tag_length.result + 2 < 100000 = (let v : c.value_length.result ≤ largest_payload + 1 = omega (arith, c.value_length.ensures) in omega (arith, v, c.key_length.ensures.1, c.tag_length.ensures.1)) in
-    record { fits = omega (arith, bound) }
+overflow_add-size-3 c = record { fits = omega (arith, bound c) }
 
 pub overflow_cast-size : goal.overflow_cast-size
-overflow_cast-size c =
-    let bound : c.key_length.result + c.value_length.result + c.tag_length.result + 2 < 100000 = (let v : c.value_length.result ≤ largest_payload + 1 = omega (arith, c.value_length.ensures) in omega (arith, v, c.key_length.ensures.1, c.tag_length.ensures.1)) in
-    record { fits = omega (arith, bound) }
+overflow_cast-size c = record { fits = omega (arith, bound c) }
 
 pub returns-then-code-ne0-2 : goal.returns-then-code-ne0-2
 returns-then-code-ne0-2 c =
-    let sized_at : let a = c.args in
-    SizeOf (c.key_length.result + c.value_length.result + c.tag_length.result + 2) (payload_of a.key a.given a.s.now a.tag) = (let a = c.args in
-    sized a.key a.given a.s.now a.tag c.key_length.result c.value_length.result c.tag_length.result c.class_of.result c.class_of.ensures c.key_length.ensures.0 c.value_length.ensures c.tag_length.ensures.0) in
-    let answer_is : let a = c.args in
-    write_answer a.key a.given a.s.now a.tag (length a.out.now) ≡ fitted (payload_of a.key a.given a.s.now a.tag) (length a.out.now) = (let a = c.args in
-    passed a.key a.given a.s.now a.tag (length a.out.now) c.message_fault-code.result c.message_fault-code.ensures c.if-code-ne0.false) in
-    leaves_same answer_is (length_refused _ _ _ c.length_fault-code.result sized_at c.length_fault-code.ensures c.if-code-ne0-2.true)
+    leaves_same (answer_is (goal.at.returns-then-code-ne0-2 c).Else-code-ne0)
+    (length_refused _ _ _ c.length_fault-code.result (sized_at (goal.at.returns-then-code-ne0-2 c).After-tag_length) c.length_fault-code.ensures c.if-code-ne0-2.true)
 
 pub put_message-requires : goal.put_message-requires
 put_message-requires c =
-    let sized_at : let a = c.args in
-    SizeOf (c.key_length.result + c.value_length.result + c.tag_length.result + 2) (payload_of a.key a.given a.s.now a.tag) = (let a = c.args in
-    sized a.key a.given a.s.now a.tag c.key_length.result c.value_length.result c.tag_length.result c.class_of.result c.class_of.ensures c.key_length.ensures.0 c.value_length.ensures c.tag_length.ensures.0) in
     let a = c.args in
     let p = payload_of a.key a.given a.s.now a.tag in
-    let z = sized_at in
+    let z = sized_at (goal.at.put_message-requires c).After-tag_length in
     let small = length_small p a.out.now _ c.length_fault-code.result z c.length_fault-code.ensures c.if-code-ne0-2.false in
     let room = length_room p a.out.now _ c.length_fault-code.result z c.length_fault-code.ensures c.if-code-ne0-2.false in
     (z.is small, omega (arith, z.is small, room, frame_length p))
 
 pub returns : goal.returns
 returns c =
-    let sized_at : let a = c.args in
-    SizeOf (c.key_length.result + c.value_length.result + c.tag_length.result + 2) (payload_of a.key a.given a.s.now a.tag) = (let a = c.args in
-    sized a.key a.given a.s.now a.tag c.key_length.result c.value_length.result c.tag_length.result c.class_of.result c.class_of.ensures c.key_length.ensures.0 c.value_length.ensures c.tag_length.ensures.0) in
-    let answer_is : let a = c.args in
-    write_answer a.key a.given a.s.now a.tag (length a.out.now) ≡ fitted (payload_of a.key a.given a.s.now a.tag) (length a.out.now) = (let a = c.args in
-    passed a.key a.given a.s.now a.tag (length a.out.now) c.message_fault-code.result c.message_fault-code.ensures c.if-code-ne0.false) in
     let a = c.args in
     let p = payload_of a.key a.given a.s.now a.tag in
-    let z = sized_at in
+    let z = sized_at (goal.at.returns c).After-tag_length in
     let small = length_small p a.out.now _ c.length_fault-code.result z c.length_fault-code.ensures c.if-code-ne0-2.false in
     let room = length_room p a.out.now _ c.length_fault-code.result z c.length_fault-code.ensures c.if-code-ne0-2.false in
-    leaves_same answer_is (leaves_count _ _ (omega (arith, small, z.is small)) (omega (arith, room, z.is small)) c.put_message.ensures)
+    leaves_same (answer_is (goal.at.returns c).Else-code-ne0) (leaves_count _ _ (omega (arith, small, z.is small)) (omega (arith, room, z.is small)) c.put_message.ensures)
