@@ -42,16 +42,13 @@ pub returns-then-byte_at-eq101 : goal.returns-then-byte_at-eq101
 returns-then-byte_at-eq101 c = c.unkeyed.ensures
 
 pub slice_bounds-key_of-count : goal.slice_bounds-key_of-count
-slice_bounds-key_of-count c =
-    let w = whole (goal.at.slice_bounds-key_of-count c).In-Bytes in omega arith
+slice_bounds-key_of-count c = let w = whole (goal.at.slice_bounds-key_of-count c).In-Bytes in omega arith
 
 pub slice_bounds-key_of-start : goal.slice_bounds-key_of-start
-slice_bounds-key_of-start c =
-    let w = whole (goal.at.slice_bounds-key_of-start c).In-Bytes in omega arith
+slice_bounds-key_of-start c = let w = whole (goal.at.slice_bounds-key_of-start c).In-Bytes in omega arith
 
 pub slice_bounds-key_of-end : goal.slice_bounds-key_of-end
-slice_bounds-key_of-end c =
-    let w = whole (goal.at.slice_bounds-key_of-end c).In-Bytes in omega arith
+slice_bounds-key_of-end c = let w = whole (goal.at.slice_bounds-key_of-end c).In-Bytes in omega arith
 
 pub rest-requires : goal.rest-requires
 rest-requires c =
