@@ -40,7 +40,7 @@ Printing n s step t = output_bytes step.output ++ printed_by n s step.run ≡ t
 printing_then : (n : ℕ) (s text rest : List ℕ) (r : Run) → printed_by n s r ≡ rest → Printing n s (printing text r) (text ++ rest)
 printing_then n s text rest r e = ap₂ (λ (x y : List ℕ). x ++ y) (output_bytes_lem text) e
 
-printed_over : (n : ℕ) (s : List ℕ) (r : Run) → r.over ≡ true → printed_by n s r ≡ []
+pub printed_over : (n : ℕ) (s : List ℕ) (r : Run) → r.over ≡ true → printed_by n s r ≡ []
 unfolding printed_by
 printed_over zero s r e = refl
 printed_over (suc n) s r e = ap (λ b. cond b [] (output_bytes (stepped s r).output ++ printed_by n s (stepped s r).run)) e
