@@ -9,28 +9,29 @@ use lib.Signed.{mag}
 use lib.ListN.{length}
 use Rattle.octets.specs.declared.numerals.Decimal.{Decimal}
 use Rattle.bencode.specs.declared.strings.Text.{Text}
-use Rattle.bencode.specs.declared.integers.Number.{Number}
-use Rattle.bencode.specs.declared.fault.Walk.{Walk}
 use Rattle.bencode.specs.declared.profile.Profile.{Profile}
 use Rattle.octets.specs.Bytes.{byte_at, slice}
 use Rattle.octets.specs.Numerals.{numeral_at}
-use Rattle.bencode.specs.Fault.{fault}
-use Rattle.bencode.specs.Strings.{string_at, text_end}
-use Rattle.bencode.specs.Integers.{signed, integer_from, integer_at, number_end}
+use Rattle.bencode.specs.Fault.{fault, Walk, cause_code}
+use Rattle.bencode.specs.Strings.{string_at, text_end, text_of}
+use Rattle.bencode.specs.Integers.{signed, integer_from, integer_at, number_end, number_of}
 use Rattle.bencode.specs.Loop.{LoopStep, next, done, after_step, repeat}
 use Rattle.bencode.specs.Utf8.{is_text}
 use Rattle.bencode.specs.Key.{is_used, is_above, order_fault, is_fault_code, key_fault}
 use Rattle.bencode.specs.Scalar.{scalar_at}
-use Rattle.bencode.specs.Walk.{onward, list_step, list_from, entry_step, dictionary_step, dictionary_from, value_at, whole, payload_at}
+use Rattle.bencode.specs.Walk.{onward, list_step, list_from, entry_step, dictionary_step, dictionary_from, value_at, whole, payload_at, keyed}
 use Rattle.bencode.specs.Depth.{largest_depth}
 use Rattle.bencode.specs.Demands.{FaultsCoded}
-use Rattle.octets.proofs.sequences.Order.{clash}
+use Rattle.std.specs.Prelude.{Ok, Err, Result, Option, Some, None}
+use Rattle.bencode.specs.declared.fault.Fault.{Fault}
+use Rattle.bencode.specs.declared.fault.Cause.{Cause}
+use native.Mathlib.Omega.{arith}
 
 module _ (p : Profile) where
   -- a walk whose fault, if it is one, has a code of the profile
   abbrev Coded : Walk → Type 0
-  Coded (Walk.End end) = Unit {0}
-  Coded (Walk.Fault f) = is_fault_code p f.code ≡ true
+  Coded (Ok end) = Unit {0}
+  Coded (Err f) = is_fault_code p (cause_code f.cause) ≡ true
 
   pick : (t : Bool) (v w : Walk) → Coded v → Coded w → Coded (cond t v w)
   pick true v w x y = x
@@ -43,7 +44,7 @@ module _ (p : Profile) where
       n : Decimal
       n = numeral_at s at
 
-      go : (t u v : Bool) → Coded (text_end (cond t (Text.Fault (fault 5 at)) (cond u (cond v (Text.Bytes (n.end + 1) (n.end + 1 + n.number)) (Text.Fault (fault 5 (length s)))) (Text.Fault (fault 5 n.end)))))
+      go : (t u v : Bool) → Coded (text_end (cond t (Err (fault Cause.Syntax at)) (cond u (cond v (Ok (text_of (n.end + 1) (n.end + 1 + n.number))) (Err (fault Cause.Syntax (length s)))) (Err (fault Cause.Syntax n.end)))))
       go true u v = refl
       go false true true = tt
       go false true false = refl
@@ -56,7 +57,7 @@ module _ (p : Profile) where
       n : Decimal
       n = numeral_at s from
 
-      go : (t u v : Bool) → Coded (number_end (cond t (Number.Fault (fault 5 from)) (cond u (cond v (Number.Integer (signed negative n.number) (n.end + 1)) (Number.Fault (fault 6 at))) (Number.Fault (fault 5 n.end)))))
+      go : (t u v : Bool) → Coded (number_end (cond t (Err (fault Cause.Syntax from)) (cond u (cond v (Ok (number_of (signed negative n.number) (n.end + 1))) (Err (fault Cause.Range at))) (Err (fault Cause.Syntax n.end)))))
       go true u v = refl
       go false true true = tt
       go false true false = refl
@@ -66,7 +67,7 @@ module _ (p : Profile) where
   unfolding integer_at
   number_coded s at = go (eqb (byte_at s at) 105) (eqb (byte_at s (at + 1)) 45) (eqb (byte_at s (at + 2)) 48)
     where
-      go : (t u v : Bool) → Coded (number_end (cond t (cond u (cond v (Number.Fault (fault 5 (at + 2))) (integer_from s at (at + 2) true)) (integer_from s at (at + 1) false)) (Number.Fault (fault 5 at))))
+      go : (t u v : Bool) → Coded (number_end (cond t (cond u (cond v (Err (fault Cause.Syntax (at + 2))) (integer_from s at (at + 2) true)) (integer_from s at (at + 1) false)) (Err (fault Cause.Syntax at))))
       go false u v = refl
       go true true true = refl
       go true true false = from_coded s at (at + 2) true
@@ -77,16 +78,19 @@ module _ (p : Profile) where
   scalar_coded s at = pick (eqb (byte_at s at) 105) (number_end (integer_at s at)) (text_end (string_at s at)) (number_coded s at) (text_coded s at)
 
   -- ---- keys
-  key_coded : (keys : List (List ℕ)) (key : List ℕ) → eqb (key_fault p keys key) 0 ≡ false → is_fault_code p (key_fault p keys key) ≡ true
+  key_coded : (keys : List (List ℕ)) (key : List ℕ) (c : Cause) → key_fault p keys key ≡ Some c → is_fault_code p (cause_code c) ≡ true
   unfolding key_fault
-  key_coded keys key e = go (is_text key) (is_used key keys) (is_above key keys) p e
+  key_coded keys key c e = go (is_text key) (is_used key keys) (is_above key keys) p e
     where
-      go : (w t u : Bool) (q : Profile) → eqb (cond w (cond t 8 (order_fault q u)) 10) 0 ≡ false → is_fault_code q (cond w (cond t 8 (order_fault q u)) 10) ≡ true
-      go true true u q e = refl
-      go true false u Profile.Loose e = clash true refl e
-      go true false true Profile.Strict e = clash true refl e
-      go true false false Profile.Strict e = refl
-      go false t u q e = refl
+      coded : (q : Profile) (d : Cause) → d ≡ c → is_fault_code q (cause_code d) ≡ true → is_fault_code q (cause_code c) ≡ true
+      coded q d i h = subst (λ (x : Cause). is_fault_code q (cause_code x) ≡ true) i h
+
+      go : (w t u : Bool) (q : Profile) → cond w (cond t (Some Cause.RepeatedKey) (order_fault q u)) (Some Cause.IllFormedKey) ≡ Some c → is_fault_code q (cause_code c) ≡ true
+      go true true u q e = coded q Cause.RepeatedKey (cc) refl
+      go true false u Profile.Loose e = let z : ◌≡◌ {A = ℕ} 0 1 = cc in absurd (omega arith)
+      go true false true Profile.Strict e = let z : ◌≡◌ {A = ℕ} 0 1 = cc in absurd (omega arith)
+      go true false false Profile.Strict e = coded Profile.Strict Cause.UnsortedKey (cc) refl
+      go false t u q e = coded q Cause.IllFormedKey (cc) refl
 
   -- ---- loops
   Stops : {X : Type 0} → LoopStep X Walk → Type 0
@@ -104,40 +108,40 @@ module _ (p : Profile) where
 
   onward_coded : {X : Type 0} (w : Walk) (x : X) → Coded w → Stops (onward w x)
   unfolding Stops
-  onward_coded (Walk.End end) x c = tt
-  onward_coded (Walk.Fault f) x c = c
+  onward_coded (Ok end) x c = tt
+  onward_coded (Err f) x c = c
 
   module _ (s : List ℕ) (value : ℕ → Walk) (coded : (at : ℕ) → Coded (value at)) where
     list_coded : (at : ℕ) → Coded (list_from value s at)
     unfolding list_from Stops
-    list_coded at = repeat_coded (list_step value s) stops (Walk.Fault (fault 5 at)) refl (suc (length s - at)) at tt
+    list_coded at = repeat_coded (list_step value s) stops (Err (fault Cause.Syntax at)) refl (suc (length s - at)) at tt
       where
         stops : (at : ℕ) (x : Unit {0}) → Stops (list_step value s at x)
         stops at x = go (eqb (byte_at s at) 101)
           where
-            go : (t : Bool) → Stops (cond t (done (Walk.End (at + 1))) (onward (value at) x))
+            go : (t : Bool) → Stops (cond t (done (Ok (at + 1))) (onward (value at) x))
             go true = tt
             go false = onward_coded (value at) x (coded at)
 
     dictionary_coded : (at : ℕ) (keys : List (List ℕ)) → Coded (dictionary_from p value s at keys)
     unfolding dictionary_from Stops
-    dictionary_coded at keys = repeat_coded (dictionary_step p value s) stops (Walk.Fault (fault 5 at)) refl (suc (length s - at)) at keys
+    dictionary_coded at keys = repeat_coded (dictionary_step p value s) stops (Err (fault Cause.Syntax at)) refl (suc (length s - at)) at keys
       where
         stops : (at : ℕ) (x : List (List ℕ)) → Stops (dictionary_step p value s at x)
         stops at x = go (eqb (byte_at s at) 101) (string_at s at) (text_coded s at)
           where
-            allowed : (key : List ℕ) (end : ℕ) (keys : List (List ℕ)) (t : Bool) → eqb (key_fault p x key) 0 ≡ t → Stops (cond t (onward (value end) keys) (done (Walk.Fault (fault (key_fault p x key) at))))
-            allowed key end keys true q = onward_coded (value end) keys (coded end)
-            allowed key end keys false q = key_coded x key q
+            allowed : (key : List ℕ) (end : ℕ) (keys : List (List ℕ)) (r : Option Cause) → key_fault p x key ≡ r → Stops (keyed r at (value end) keys)
+            allowed key end keys None q = onward_coded (value end) keys (coded end)
+            allowed key end keys (Some c) q = key_coded x key c q
 
-            go : (t : Bool) (k : Text) → Coded (text_end k) → Stops (cond t (done (Walk.End (at + 1))) (entry_step p value s at x k))
+            go : (t : Bool) (k : Result Text Fault) → Coded (text_end k) → Stops (cond t (done (Ok (at + 1))) (entry_step p value s at x k))
             go true k c = tt
-            go false (Text.Fault f) c = c
-            go false (Text.Bytes start end) c = allowed (slice s start end) end (slice s start end ∷ x) (eqb (key_fault p x (slice s start end)) 0) refl
+            go false (Err f) c = c
+            go false (Ok t) c = allowed (slice s t.start t.end) t.end (slice s t.start t.end ∷ x) (key_fault p x (slice s t.start t.end)) refl
 
   value_coded : (levels : ℕ) (s : List ℕ) (at : ℕ) → Coded (value_at p levels s at)
   unfolding value_at
-  value_coded zero s at = pick (eqb (byte_at s at) 108) (Walk.Fault (fault 7 at)) (cond (eqb (byte_at s at) 100) (Walk.Fault (fault 7 at)) (scalar_at s at)) refl (pick (eqb (byte_at s at) 100) (Walk.Fault (fault 7 at)) (scalar_at s at) refl (scalar_coded s at))
+  value_coded zero s at = pick (eqb (byte_at s at) 108) (Err (fault Cause.Depth at)) (cond (eqb (byte_at s at) 100) (Err (fault Cause.Depth at)) (scalar_at s at)) refl (pick (eqb (byte_at s at) 100) (Err (fault Cause.Depth at)) (scalar_at s at) refl (scalar_coded s at))
   value_coded (suc levels) s at =
       let l = list_from (value_at p levels s) s (at + 1) in
       let d = dictionary_from p (value_at p levels s) s (at + 1) [] in
@@ -149,8 +153,8 @@ module _ (p : Profile) where
   payload_coded s = go (value_at p largest_depth s 0) (value_coded largest_depth s 0)
     where
       go : (w : Walk) → Coded w → Coded (whole s w)
-      go (Walk.End end) c = pick (eqb end (length s)) (Walk.End end) (Walk.Fault (fault 9 end)) tt refl
-      go (Walk.Fault f) c = c
+      go (Ok end) c = pick (eqb end (length s)) (Ok end) (Err (fault Cause.Trailing end)) tt refl
+      go (Err f) c = c
 
 pub faults_coded : FaultsCoded
 faults_coded p s f e = subst (Coded p) e (payload_coded p s)

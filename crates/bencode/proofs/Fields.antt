@@ -1,12 +1,12 @@
 -- A key's field shows what the look-up finds in the grammar's value.
 -- Assumes nothing.
+use Rattle.std.specs.Prelude.{Option, Some, None}
 use Prim.Native.Nat.{ℕ, zero, suc, ◌+◌}
 use mathlib.Core.Path.{◌≡◌, refl, ap, subst, ◌∙◌}
 use mathlib.Core.List.{List, [], ◌∷◌, ◌++◌}
 use native.Mathlib.Omega.{arith}
 use lib.IntN.{ℤ}
 use lib.ListN.{length}
-use Rattle.bencode.specs.declared.entry.Entry.{Entry}
 use Rattle.bencode.specs.declared.field.Field.{Field}
 use Rattle.bencode.specs.declared.profile.Profile.{Profile}
 use Rattle.octets.specs.Bytes.{Begins}
@@ -44,24 +44,24 @@ pub finds_field : FindsField
 unfolding field_of
 finds_field p levels es s at end key formed b =
     let r = finds_entry p levels es [] s at end key formed b in
-    subst (λ (e : Entry). ShowsFound p s end (lookup key es) e (field_of s key at)) r.0 (go (lookup key es) (entry_at s key at) r.1)
+    subst (λ (e : Option ℕ). ShowsFound p s end (lookup key es) e (field_of s key at)) r.0 (go (lookup key es) (entry_at s key at) r.1)
   where
-    go : (x : Found) (e : Entry) → Located p levels s end x e → ShowsFound p s end x e (entry_field s e)
-    go (found v) (Entry.At to) l = (shows_value p levels v s to (to + length (encode v)) l.0 l.1, l.2)
-    go (found v) Entry.Missing l = absurd l
-    go missing (Entry.At to) l = absurd l
-    go missing Entry.Missing l = refl
+    go : (x : Found) (e : Option ℕ) → Located p levels s end x e → ShowsFound p s end x e (entry_field s e)
+    go (found v) (Some to) l = (shows_value p levels v s to (to + length (encode v)) l.0 l.1, l.2)
+    go (found v) None l = absurd l
+    go missing (Some to) l = absurd l
+    go missing None l = refl
 
 -- what is made of a key's integer, or of another field, is what is meant by the value that is found
 module _ {A : Type 0} (other : A) (make : ℤ → ℕ → A) (meant : ℤ → A) (s : List ℕ) (end : ℕ) (same : (z : ℤ) (to : ℕ) → skip_rest s to ≡ end → make z to ≡ meant z) where
-  shows_integer : (p : Profile) (x : Found) (e : Entry) (f : Field) → ShowsFound p s end x e f → if_integer other make f ≡ found_integer other meant x
-  shows_integer p (found (integer z)) (Entry.At at) f h = rw h.0 (same z (at + length (encode (integer z))) h.1)
-  shows_integer p (found (string text)) (Entry.At at) f h = rw h.0.0 refl
-  shows_integer p (found (list vs)) (Entry.At at) f h = rw h.0.0 refl
-  shows_integer p (found (dictionary es)) (Entry.At at) f h = rw h.0.0 refl
-  shows_integer p (found v) Entry.Missing f h = absurd h
-  shows_integer p missing (Entry.At at) f h = absurd h
-  shows_integer p missing Entry.Missing f h = rw h refl
+  shows_integer : (p : Profile) (x : Found) (e : Option ℕ) (f : Option Field) → ShowsFound p s end x e f → if_integer other make f ≡ found_integer other meant x
+  shows_integer p (found (integer z)) (Some at) f h = rw h.0 (same z (at + length (encode (integer z))) h.1)
+  shows_integer p (found (string text)) (Some at) f h = rw h.0.0 refl
+  shows_integer p (found (list vs)) (Some at) f h = rw h.0.0 refl
+  shows_integer p (found (dictionary es)) (Some at) f h = rw h.0.0 refl
+  shows_integer p (found v) None f h = absurd h
+  shows_integer p missing (Some at) f h = absurd h
+  shows_integer p missing None f h = rw h refl
 
   pub finds_integer : (p : Profile) (levels : ℕ) (es : Entries) (at : ℕ) (key : List ℕ) → AllEntries p (WellFormed p levels) [] es → Begins s at (encode_entries es ++ (101 ∷ [])) end → if_integer other make (field_of s key at) ≡ found_integer other meant (lookup key es)
   finds_integer p levels es at key formed b = shows_integer p (lookup key es) (lookup_at key es at) (field_of s key at) (finds_field p levels es s at end key formed b)

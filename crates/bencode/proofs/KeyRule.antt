@@ -16,6 +16,8 @@ use Rattle.bencode.specs.Demands.{KeysOnce, KeysRise, TenForNoText, EightForRepe
 use Rattle.bencode.proofs.KeyText.{key_text_lem}
 use Rattle.octets.proofs.sequences.Order.{clash, same_eq}
 use Rattle.bencode.proofs.walking.KeyOrder.{above_unused, used_head, used_tail}
+use Rattle.bencode.specs.declared.fault.Cause.{Cause}
+use Rattle.std.specs.Prelude.{Option, Some, None}
 
 used_member : (key : List ℕ) (keys : List (List ℕ)) → is_used key keys ≡ true → Memᴰ key keys
 unfolding is_used
@@ -48,12 +50,12 @@ pub keys_once : KeysOnce
 unfolding key_fault
 keys_once keys key = (λ e. there (is_text key) refl (is_used key keys) refl e, λ h. rw ((key_text_lem key).1 h.0) (back (is_used key keys) refl h.1))
   where
-    there : (w : Bool) → is_text key ≡ w → (t : Bool) → is_used key keys ≡ t → ◌≡◌ {A = ℕ} (cond w (cond t 8 0) 10) 0 → Utf8Text key × (Memᴰ key keys → ⊥)
-    there true x true q e = absurd (omega arith)
+    there : (w : Bool) → is_text key ≡ w → (t : Bool) → is_used key keys ≡ t → ◌≡◌ {A = Option Cause} (cond w (cond t (Some Cause.RepeatedKey) None) (Some Cause.IllFormedKey)) None → Utf8Text key × (Memᴰ key keys → ⊥)
+    there true x true q e = let z : ◌≡◌ {A = ℕ} 0 1 = cc in absurd (omega arith)
     there true x false q e = ((key_text_lem key).0 x, λ m. clash (is_used key keys) (member_used key keys m) q)
-    there false x t q e = absurd (omega arith)
+    there false x t q e = let z : ◌≡◌ {A = ℕ} 0 1 = cc in absurd (omega arith)
 
-    back : (t : Bool) → is_used key keys ≡ t → (Memᴰ key keys → ⊥) → ◌≡◌ {A = ℕ} (cond t 8 0) 0
+    back : (t : Bool) → is_used key keys ≡ t → (Memᴰ key keys → ⊥) → ◌≡◌ {A = Option Cause} (cond t (Some Cause.RepeatedKey) None) None
     back true q h = absurd (h (used_member key keys q))
     back false q h = refl
 
@@ -61,24 +63,24 @@ pub keys_rise : KeysRise
 unfolding key_fault
 keys_rise keys key = (λ e. there (is_text key) refl (is_used key keys) (is_above key keys) refl e, λ h. rw ((key_text_lem key).1 h.0, above_unused key keys (every_above key keys h.1), every_above key keys h.1) refl)
   where
-    there : (w : Bool) → is_text key ≡ w → (t u : Bool) → is_above key keys ≡ u → ◌≡◌ {A = ℕ} (cond w (cond t 8 (cond u 0 11)) 10) 0 → Utf8Text key × ((k : List ℕ) → Memᴰ k keys → less k key ≡ true)
-    there true x true u q e = absurd (omega arith)
+    there : (w : Bool) → is_text key ≡ w → (t u : Bool) → is_above key keys ≡ u → ◌≡◌ {A = Option Cause} (cond w (cond t (Some Cause.RepeatedKey) (cond u None (Some Cause.UnsortedKey))) (Some Cause.IllFormedKey)) None → Utf8Text key × ((k : List ℕ) → Memᴰ k keys → less k key ≡ true)
+    there true x true u q e = let z : ◌≡◌ {A = ℕ} 0 1 = cc in absurd (omega arith)
     there true x false true q e = ((key_text_lem key).0 x, above_every key keys q)
-    there true x false false q e = absurd (omega arith)
-    there false x t u q e = absurd (omega arith)
+    there true x false false q e = let z : ◌≡◌ {A = ℕ} 0 1 = cc in absurd (omega arith)
+    there false x t u q e = let z : ◌≡◌ {A = ℕ} 0 1 = cc in absurd (omega arith)
 
 pub ten_for_no_text : TenForNoText
 unfolding key_fault
 ten_for_no_text p keys key = (λ e t. there (is_text key) ((key_text_lem key).1 t) (is_used key keys) (is_above key keys) p e, λ h. back (is_text key) refl h)
   where
-    there : (w : Bool) → w ≡ true → (t u : Bool) (q : Profile) → ◌≡◌ {A = ℕ} (cond w (cond t 8 (order_fault q u)) 10) 10 → ⊥
-    there true x true u q e = omega arith
-    there true x false u Profile.Loose e = omega arith
-    there true x false true Profile.Strict e = omega arith
-    there true x false false Profile.Strict e = omega arith
+    there : (w : Bool) → w ≡ true → (t u : Bool) (q : Profile) → ◌≡◌ {A = Option Cause} (cond w (cond t (Some Cause.RepeatedKey) (order_fault q u)) (Some Cause.IllFormedKey)) (Some Cause.IllFormedKey) → ⊥
+    there true x true u q e = let z : ◌≡◌ {A = ℕ} 0 1 = cc in omega arith
+    there true x false u Profile.Loose e = let z : ◌≡◌ {A = ℕ} 0 1 = cc in omega arith
+    there true x false true Profile.Strict e = let z : ◌≡◌ {A = ℕ} 0 1 = cc in omega arith
+    there true x false false Profile.Strict e = let z : ◌≡◌ {A = ℕ} 0 1 = cc in omega arith
     there false x t u q e = clash false x refl
 
-    back : (w : Bool) → is_text key ≡ w → (Utf8Text key → ⊥) → cond w (compared_fault p keys key) 10 ≡ 10
+    back : (w : Bool) → is_text key ≡ w → (Utf8Text key → ⊥) → cond w (compared_fault p keys key) (Some Cause.IllFormedKey) ≡ Some Cause.IllFormedKey
     back true x h = absurd (h ((key_text_lem key).0 x))
     back false x h = refl
 
@@ -86,28 +88,28 @@ pub eight_for_repeated : EightForRepeated
 unfolding key_fault
 eight_for_repeated p keys key = (λ e. there (is_text key) refl (is_used key keys) refl (is_above key keys) p e, λ h. rw ((key_text_lem key).1 h.0, member_used key keys h.1) refl)
   where
-    there : (w : Bool) → is_text key ≡ w → (t : Bool) → is_used key keys ≡ t → (u : Bool) (q : Profile) → ◌≡◌ {A = ℕ} (cond w (cond t 8 (order_fault q u)) 10) 8 → Utf8Text key × Memᴰ key keys
+    there : (w : Bool) → is_text key ≡ w → (t : Bool) → is_used key keys ≡ t → (u : Bool) (q : Profile) → ◌≡◌ {A = Option Cause} (cond w (cond t (Some Cause.RepeatedKey) (order_fault q u)) (Some Cause.IllFormedKey)) (Some Cause.RepeatedKey) → Utf8Text key × Memᴰ key keys
     there true x true y u q e = ((key_text_lem key).0 x, used_member key keys y)
-    there true x false y u Profile.Loose e = absurd (omega arith)
-    there true x false y true Profile.Strict e = absurd (omega arith)
-    there true x false y false Profile.Strict e = absurd (omega arith)
-    there false x t y u q e = absurd (omega arith)
+    there true x false y u Profile.Loose e = let z : ◌≡◌ {A = ℕ} 0 1 = cc in absurd (omega arith)
+    there true x false y true Profile.Strict e = let z : ◌≡◌ {A = ℕ} 0 1 = cc in absurd (omega arith)
+    there true x false y false Profile.Strict e = let z : ◌≡◌ {A = ℕ} 0 1 = cc in absurd (omega arith)
+    there false x t y u q e = let z : ◌≡◌ {A = ℕ} 0 1 = cc in absurd (omega arith)
 
 pub eleven_for_unsorted : ElevenForUnsorted
 unfolding key_fault
 eleven_for_unsorted p keys key = (λ e. there (is_text key) refl (is_used key keys) refl (is_above key keys) refl p e, λ h. back p h.0 (is_text key) ((key_text_lem key).1 h.1) (is_used key keys) refl h.2 (is_above key keys) refl h.3)
   where
-    there : (w : Bool) → is_text key ≡ w → (t : Bool) → is_used key keys ≡ t → (u : Bool) → is_above key keys ≡ u → (q : Profile) → ◌≡◌ {A = ℕ} (cond w (cond t 8 (order_fault q u)) 10) 11
+    there : (w : Bool) → is_text key ≡ w → (t : Bool) → is_used key keys ≡ t → (u : Bool) → is_above key keys ≡ u → (q : Profile) → ◌≡◌ {A = Option Cause} (cond w (cond t (Some Cause.RepeatedKey) (order_fault q u)) (Some Cause.IllFormedKey)) (Some Cause.UnsortedKey)
         → (q ≡ Profile.Strict) × Utf8Text key × (Memᴰ key keys → ⊥) × (((k : List ℕ) → Memᴰ k keys → less k key ≡ true) → ⊥)
-    there true x true y u z q e = absurd (omega arith)
-    there true x false y u z Profile.Loose e = absurd (omega arith)
-    there true x false y true z Profile.Strict e = absurd (omega arith)
+    there true x true y u z q e = let z : ◌≡◌ {A = ℕ} 0 1 = cc in absurd (omega arith)
+    there true x false y u z Profile.Loose e = let z : ◌≡◌ {A = ℕ} 0 1 = cc in absurd (omega arith)
+    there true x false y true z Profile.Strict e = let z : ◌≡◌ {A = ℕ} 0 1 = cc in absurd (omega arith)
     there true x false y false z Profile.Strict e =
         (refl, (key_text_lem key).0 x, λ m. clash (is_used key keys) (member_used key keys m) y, λ h. clash (is_above key keys) (every_above key keys h) z)
-    there false x t y u z q e = absurd (omega arith)
+    there false x t y u z q e = let z : ◌≡◌ {A = ℕ} 0 1 = cc in absurd (omega arith)
 
     back : (q : Profile) → q ≡ Profile.Strict → (w : Bool) → w ≡ true → (t : Bool) → is_used key keys ≡ t → (Memᴰ key keys → ⊥) → (u : Bool) → is_above key keys ≡ u → (((k : List ℕ) → Memᴰ k keys → less k key ≡ true) → ⊥)
-        → ◌≡◌ {A = ℕ} (cond w (cond t 8 (order_fault q u)) 10) 11
+        → ◌≡◌ {A = Option Cause} (cond w (cond t (Some Cause.RepeatedKey) (order_fault q u)) (Some Cause.IllFormedKey)) (Some Cause.UnsortedKey)
     back q i false x t y a u z b = clash false x refl
     back q i true x true y a u z b = absurd (a (used_member key keys y))
     back q i true x false y a true z b = absurd (b (above_every key keys z))

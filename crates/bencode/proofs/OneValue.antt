@@ -7,7 +7,6 @@ use native.Mathlib.Omega.{arith}
 use lib.IntN.{ℤ, pos, negsuc}
 use lib.ListN.{length}
 use Rattle.octets.specs.declared.numerals.Decimal.{Decimal}
-use Rattle.bencode.specs.declared.strings.Text.{Text}
 use Rattle.octets.specs.Bytes.{byte_at, slice, Begins}
 use Rattle.octets.specs.Numerals.{numeral_at, decimal}
 use Rattle.bencode.specs.Value.{Value, integer, string, list, dictionary, Values, no_value, value, Entries, no_entry, entry, signed_decimal, encode_string, encode, encode_all, encode_entries}
@@ -16,6 +15,7 @@ use Rattle.octets.proofs.sequences.BeginsLaws.{begins_left, begins_right, begins
 use Rattle.bencode.proofs.values.Encodings.{values_text, entries_text}
 use Rattle.bencode.proofs.values.FirstBytes.{FirstByte, first_byte, string_first, no_end}
 use Rattle.bencode.proofs.values.ScalarReads.{first_digit, numeral_reads, no_digit, string_reads}
+use Rattle.bencode.proofs.scalars.StringLaws.{same_text}
 
 module _ (s : List ℕ) where
   -- ---- integers
@@ -44,10 +44,8 @@ module _ (s : List ℕ) where
   one_string at e f x y b c =
       let p = string_reads s at e x b in
       let q = string_reads s at f y c in
-      let both : Text.Bytes p.0 e ≡ Text.Bytes q.0 f = sym p.1 ∙ q.1 in
-      let starts : p.0 ≡ q.0 = cc in
-      let ends : e ≡ f = cc in
-      sym p.2 ∙ ap (λ (k : ℕ). slice s k e) starts ∙ ap (λ (k : ℕ). slice s q.0 k) ends ∙ q.2
+      let both = same_text p.0 e q.0 f (sym p.1 ∙ q.1) in
+      sym p.2 ∙ ap (λ (k : ℕ). slice s k e) both.0 ∙ ap (λ (k : ℕ). slice s q.0 k) both.1 ∙ q.2
 
   -- ---- values
   mutual

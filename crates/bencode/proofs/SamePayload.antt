@@ -5,7 +5,6 @@ use mathlib.Core.Path.{◌≡◌, refl, ap}
 use mathlib.Core.List.{List}
 use native.Mathlib.Omega.{arith}
 use lib.ListN.{length}
-use Rattle.bencode.specs.declared.fault.Walk.{Walk}
 use Rattle.bencode.specs.declared.profile.Profile.{Profile}
 use Rattle.bencode.specs.Demands.{SamePayload}
 use Rattle.bencode.specs.Flat.{Levels, at_start, turn, loop_at}
@@ -13,6 +12,7 @@ use Rattle.bencode.specs.Loop.{LoopStep, next, done, after_step, repeat}
 use Rattle.bencode.specs.Walk.{whole, payload_at}
 use Rattle.bencode.proofs.walking.OpenLevels.{FirstValue, Stand, starts}
 use Rattle.bencode.proofs.walking.FlatLaws.{Lands, lands}
+use Rattle.bencode.specs.Fault.{Walk}
 
 module _ (p : Profile) (s : List ℕ) (a : Walk) where
   loop_lands : (n at : ℕ) (x : Levels) → length s - at < n → Stand p s x.row x.depth x.level x.valued at → repeat (turn p s) a n at x ≡ FirstValue p s
@@ -27,4 +27,4 @@ module _ (p : Profile) (s : List ℕ) (a : Walk) where
 
 pub same_payload : SamePayload
 unfolding loop_at payload_at
-same_payload p s = ap (whole s) (loop_lands p s _ _ 0 at_start (omega arith) (starts p s at_start.row at_start.level refl refl))
+same_payload p s endless = ap (whole s) (loop_lands p s _ _ 0 at_start (omega arith) (starts p s at_start.row at_start.level refl refl))

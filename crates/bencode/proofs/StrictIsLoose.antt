@@ -9,11 +9,10 @@ use native.Mathlib.Omega.{arith}
 use lib.Dec.{eqb}
 use lib.ListN.{length}
 use Rattle.octets.specs.Bytes.{byte_at, slice}
-use Rattle.bencode.specs.declared.fault.Walk.{Walk}
 use Rattle.bencode.specs.declared.profile.Profile.{Profile}
 use Rattle.bencode.specs.declared.strings.Text.{Text}
 use Rattle.bencode.specs.Depth.{largest_depth}
-use Rattle.bencode.specs.Fault.{fault, code_of}
+use Rattle.bencode.specs.Fault.{fault, code_of, Walk}
 use Rattle.bencode.specs.Key.{is_used, is_above, order_fault, key_fault}
 use Rattle.bencode.specs.Loop.{LoopStep, next, done, after_step, repeat}
 use Rattle.bencode.specs.Scalar.{scalar_at}
@@ -21,6 +20,9 @@ use Rattle.bencode.specs.Strings.{string_at}
 use Rattle.bencode.specs.Utf8.{is_text}
 use Rattle.bencode.specs.Walk.{onward, keyed, list_step, list_from, entry_step, dictionary_step, dictionary_from, value_at, whole, payload_at, payload_code}
 use Rattle.bencode.specs.Demands.{StrictIsLoose}
+use Rattle.std.specs.Prelude.{Ok, Err, Result, Some}
+use Rattle.bencode.specs.declared.fault.Fault.{Fault}
+use Rattle.bencode.specs.declared.fault.Cause.{Cause}
 
 -- a walk finds what another finds, or 11
 abbrev Agree : Walk → Walk → Type 0
@@ -54,45 +56,45 @@ repeat_agrees {X} strict loose h w (suc n) at x = go (strict at x) (loose at x) 
 
 onward_agrees : {X : Type 0} (strict loose : Walk) (x : X) → Agree strict loose → StepsAgree (onward strict x) (onward loose x)
 onward_agrees strict loose x (inl e) = inl (ap (λ (w : Walk). onward w x) e)
-onward_agrees (Walk.End end) loose x (inr e) = absurd (omega arith)
-onward_agrees (Walk.Fault f) loose x (inr e) = inr e
+onward_agrees (Ok end) loose x (inr e) = absurd (omega arith)
+onward_agrees (Err f) loose x (inr e) = inr e
 
 -- ---- lists and dictionaries, whose values agree
 module _ (s : List ℕ) (strict loose : ℕ → Walk) (agree : (at : ℕ) → Agree (strict at) (loose at)) where
   list_agrees : (at : ℕ) → Agree (list_from strict s at) (list_from loose s at)
   unfolding list_from
-  list_agrees at = repeat_agrees (list_step strict s) (list_step loose s) steps (Walk.Fault (fault 5 at)) (suc (length s - at)) at tt
+  list_agrees at = repeat_agrees (list_step strict s) (list_step loose s) steps (Err (fault Cause.Syntax at)) (suc (length s - at)) at tt
     where
       steps : (at : ℕ) (x : Unit {0}) → StepsAgree (list_step strict s at x) (list_step loose s at x)
       steps at x = go (eqb (byte_at s at) 101)
         where
-          go : (t : Bool) → StepsAgree (cond t (done (Walk.End (at + 1))) (onward (strict at) x)) (cond t (done (Walk.End (at + 1))) (onward (loose at) x))
+          go : (t : Bool) → StepsAgree (cond t (done (Ok (at + 1))) (onward (strict at) x)) (cond t (done (Ok (at + 1))) (onward (loose at) x))
           go true = inl refl
           go false = onward_agrees (strict at) (loose at) x (agree at)
 
   -- a key that comes once and does not rise is where the profiles part
-  entry_agrees : (at : ℕ) (keys : List (List ℕ)) (k : Text) → StepsAgree (entry_step Profile.Strict strict s at keys k) (entry_step Profile.Loose loose s at keys k)
+  entry_agrees : (at : ℕ) (keys : List (List ℕ)) (k : Result Text Fault) → StepsAgree (entry_step Profile.Strict strict s at keys k) (entry_step Profile.Loose loose s at keys k)
   unfolding key_fault
-  entry_agrees at keys (Text.Fault f) = inl refl
-  entry_agrees at keys (Text.Bytes start end) = go (is_text (slice s start end)) (is_used (slice s start end) keys) (is_above (slice s start end) keys)
+  entry_agrees at keys (Err f) = inl refl
+  entry_agrees at keys (Ok t) = go (is_text (slice s t.start t.end)) (is_used (slice s t.start t.end) keys) (is_above (slice s t.start t.end) keys)
     where
       more : List (List ℕ)
-      more = slice s start end ∷ keys
+      more = slice s t.start t.end ∷ keys
 
-      go : (w t u : Bool) → StepsAgree (keyed (cond w (cond t 8 (order_fault Profile.Strict u)) 10) at strict end more) (keyed (cond w (cond t 8 (order_fault Profile.Loose u)) 10) at loose end more)
+      go : (w v u : Bool) → StepsAgree (keyed (cond w (cond v (Some Cause.RepeatedKey) (order_fault Profile.Strict u)) (Some Cause.IllFormedKey)) at (strict t.end) more) (keyed (cond w (cond v (Some Cause.RepeatedKey) (order_fault Profile.Loose u)) (Some Cause.IllFormedKey)) at (loose t.end) more)
       go true true u = inl refl
-      go true false true = onward_agrees (strict end) (loose end) more (agree end)
+      go true false true = onward_agrees (strict t.end) (loose t.end) more (agree t.end)
       go true false false = inr refl
-      go false t u = inl refl
+      go false v u = inl refl
 
   dictionary_agrees : (at : ℕ) → Agree (dictionary_from Profile.Strict strict s at []) (dictionary_from Profile.Loose loose s at [])
   unfolding dictionary_from
-  dictionary_agrees at = repeat_agrees (dictionary_step Profile.Strict strict s) (dictionary_step Profile.Loose loose s) steps (Walk.Fault (fault 5 at)) (suc (length s - at)) at []
+  dictionary_agrees at = repeat_agrees (dictionary_step Profile.Strict strict s) (dictionary_step Profile.Loose loose s) steps (Err (fault Cause.Syntax at)) (suc (length s - at)) at []
     where
       steps : (at : ℕ) (keys : List (List ℕ)) → StepsAgree (dictionary_step Profile.Strict strict s at keys) (dictionary_step Profile.Loose loose s at keys)
       steps at keys = go (eqb (byte_at s at) 101)
         where
-          go : (t : Bool) → StepsAgree (cond t (done (Walk.End (at + 1))) (entry_step Profile.Strict strict s at keys (string_at s at))) (cond t (done (Walk.End (at + 1))) (entry_step Profile.Loose loose s at keys (string_at s at)))
+          go : (t : Bool) → StepsAgree (cond t (done (Ok (at + 1))) (entry_step Profile.Strict strict s at keys (string_at s at))) (cond t (done (Ok (at + 1))) (entry_step Profile.Loose loose s at keys (string_at s at)))
           go true = inl refl
           go false = entry_agrees at keys (string_at s at)
 
@@ -112,8 +114,8 @@ value_agrees (suc levels) s at =
 
 whole_agrees : (s : List ℕ) (strict loose : Walk) → Agree strict loose → Agree (whole s strict) (whole s loose)
 whole_agrees s strict loose (inl e) = inl (ap (whole s) e)
-whole_agrees s (Walk.End end) loose (inr e) = absurd (omega arith)
-whole_agrees s (Walk.Fault f) loose (inr e) = inr e
+whole_agrees s (Ok end) loose (inr e) = absurd (omega arith)
+whole_agrees s (Err f) loose (inr e) = inr e
 
 pub strict_is_loose : StrictIsLoose
 unfolding payload_at payload_code

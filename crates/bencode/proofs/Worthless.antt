@@ -6,17 +6,16 @@ use mathlib.Core.Bool.{Bool, true, false}
 use mathlib.Core.List.{[], ◌∷◌}
 use borrow.Author.Tests.{eqb-false}
 use lib.Dec.{eqb}
-use Rattle.bencode.specs.declared.fault.Walk.{Walk}
 use Rattle.bencode.specs.declared.profile.Profile.{Profile}
 use Rattle.octets.specs.Ascii.{ascii}
 use Rattle.octets.specs.Bytes.{same, less}
 use Rattle.octets.specs.Numerals.{numeral_at, digits}
 use Rattle.octets.proofs.sequences.Order.{clash}
 use Rattle.bencode.specs.Entry.{entry_at}
-use Rattle.bencode.specs.Fault.{fault, code_of}
+use Rattle.bencode.specs.Fault.{fault, code_of, Walk}
 use Rattle.bencode.specs.Flat.{turn, loop_at}
 use Rattle.bencode.specs.Tokens.{value_token, token_at}
-use Rattle.bencode.specs.Key.{is_used, is_above, is_fault_code, key_fault}
+use Rattle.bencode.specs.Key.{is_used, is_above, key_fault}
 use Rattle.bencode.specs.KeySearch.{key_text_at, used_at, repeated_at, above_at, key_at}
 use Rattle.bencode.specs.Loop.{repeat}
 use Rattle.bencode.specs.Marks.{place_of, is_marked, with_mark}
@@ -26,8 +25,9 @@ use Rattle.bencode.specs.Strings.{string_at}
 use Rattle.bencode.specs.Utf8.{text_from, is_text}
 use Rattle.bencode.specs.Walk.{list_from, dictionary_from, value_at, whole, payload_at}
 use Rattle.bencode.specs.Worthless.{DifferentFalls, AnyBytesFalls, is_ascii, AsciiAloneFalls, RowForgottenFalls, DictionaryAsListFalls, InnerKeysKeptFalls, LevelUncountedFalls, EndlessFalls, EverythingFalls}
-use Rattle.bencode.proofs.FaultCodes.{faults_coded}
 use Rattle.bencode.proofs.KeyText.{key_text_lem}
+use Rattle.std.specs.Prelude.{Err, Ok}
+use Rattle.bencode.specs.declared.fault.Cause.{Cause}
 
 pub different_falls : DifferentFalls
 different_falls recognise key h demand = go (recognise key) refl (is_text key) refl
@@ -53,28 +53,28 @@ codes_differ {v} {w} h e = eqb-false (code_of v) (code_of w) h (ap code_of e)
 
 pub row_forgotten_falls : RowForgottenFalls
 unfolding ascii same less numeral_at digits string_at scalar_at repeat text_from is_used is_above key_fault list_from dictionary_from value_at payload_at key_text_at used_at repeated_at above_at key_at entry_at skip_from is_marked with_mark place_of value_token token_at turn loop_at
-row_forgotten_falls demand = codes_differ refl (demand Profile.Loose (ascii "d1:ale1:a0:e"))
+row_forgotten_falls demand = codes_differ refl (demand Profile.Loose (ascii "d1:ale1:a0:e") (Ok 0))
 
 pub dictionary_as_list_falls : DictionaryAsListFalls
 unfolding ascii same less numeral_at digits string_at scalar_at repeat text_from is_used is_above key_fault list_from dictionary_from value_at payload_at key_text_at used_at repeated_at above_at key_at entry_at skip_from is_marked with_mark place_of value_token token_at turn loop_at
-dictionary_as_list_falls demand = codes_differ refl (demand Profile.Loose (ascii "d1:ae"))
+dictionary_as_list_falls demand = codes_differ refl (demand Profile.Loose (ascii "d1:ae") (Ok 0))
 
 pub inner_keys_kept_falls : InnerKeysKeptFalls
 unfolding ascii same less numeral_at digits string_at scalar_at repeat text_from is_used is_above key_fault list_from dictionary_from value_at payload_at key_text_at used_at repeated_at above_at key_at entry_at skip_from is_marked with_mark place_of value_token token_at turn loop_at
-inner_keys_kept_falls demand = codes_differ refl (demand Profile.Loose (ascii "d1:ad1:b0:e1:b0:e"))
+inner_keys_kept_falls demand = codes_differ refl (demand Profile.Loose (ascii "d1:ad1:b0:e1:b0:e") (Ok 0))
 
 pub level_uncounted_falls : LevelUncountedFalls
 unfolding ascii same less numeral_at digits string_at scalar_at repeat text_from is_used is_above key_fault list_from dictionary_from value_at payload_at key_text_at used_at repeated_at above_at key_at entry_at skip_from is_marked with_mark place_of value_token token_at turn loop_at
-level_uncounted_falls demand = codes_differ refl (demand Profile.Loose (ascii "le"))
-
-no_code_zero : (p : Profile) → is_fault_code p 0 ≡ true → ⊥
-no_code_zero Profile.Loose e = clash false e refl
-no_code_zero Profile.Strict e = clash false e refl
+level_uncounted_falls demand = codes_differ refl (demand Profile.Loose (ascii "le") (Ok 0))
 
 pub endless_falls : EndlessFalls
 unfolding loop_at
-endless_falls step p s endless demand = no_code_zero p (faults_coded p s (fault 0 0) (sym (demand p s) ∙ ap (whole s) (endless (Walk.Fault (fault 0 0)))))
+endless_falls step p s endless demand = codes_differ refl (answered Cause.Range ∙ sym (answered Cause.Depth))
+  where
+    -- such a loop answers what it is given, so that the payload would have each fault
+    answered : (c : Cause) → Err (fault c 0) ≡ payload_at p s
+    answered c = sym (ap (whole s) (endless (Err (fault c 0)))) ∙ demand p s (Err (fault c 0))
 
 pub everything_falls : EverythingFalls
 unfolding ascii numeral_at digits string_at scalar_at repeat value_at payload_at loop_at
-everything_falls demand = codes_differ refl (demand Profile.Loose (ascii "e"))
+everything_falls demand = codes_differ refl (demand Profile.Loose (ascii "e") (Ok 0))

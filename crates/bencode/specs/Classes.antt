@@ -1,7 +1,7 @@
 -- Pinned by the promises of the walk's functions; nothing public cites it. The classes of bytes (document 02, request 12).
 -- Assumes nothing.
-use Rattle.std.specs.Prelude.{ℕ, ◌+◌, Bool, cond, ◌&&◌, ◌||◌, List, [], ◌∷◌, eqb}
-use Rattle.octets.specs.Bytes.{digit0}
+use Rattle.std.specs.Prelude.{ℕ, ◌+◌, ◌≤◌, ◌<◌, ◌≡◌, Bool, cond, ◌&&◌, ◌||◌, List, [], ◌∷◌, eqb}
+use Rattle.octets.specs.Bytes.{digit0, byte_at}
 use Rattle.octets.specs.Numerals.{is_digit}
 use Rattle.bencode.specs.Letters.{letter_d, letter_e, letter_i, letter_l, colon, minus}
 
@@ -25,3 +25,7 @@ are_classes_from b (c ∷ cs) = eqb c (class_of b) && are_classes_from (b + 1) c
 -- is a list the table of the classes of all bytes
 unfoldable pub is_table : List ℕ → Bool
 is_table t = are_classes_from 0 t
+
+-- from an offset up to another there are digits, at most so many; and where there are fewer, what follows them is none
+abbrev pub DigitsTo : List ℕ → ℕ → ℕ → ℕ → Type 0
+DigitsTo s from most end = (from ≤ end) × (end ≤ from + most) × ((k : ℕ) → from + k < end → class_of (byte_at s (from + k)) ≡ digit0) × (end < from + most → class_of (byte_at s end) ≡ digit0 → ⊥)

@@ -2,12 +2,12 @@
 -- encoding not too long is answered by its value's meaning. How a payload of at most so many bytes is judged: by its length,
 -- then by the walk, then by what its value means.
 -- Assumes nothing.
-use Rattle.std.specs.Prelude.{ℕ, ◌≤◌, ◌<◌, ◌≡◌, List, length}
-use Rattle.bencode.specs.declared.fault.Walk.{Walk}
+use Rattle.std.specs.Prelude.{ℕ, ◌≤◌, ◌<◌, ◌≡◌, List, length, Ok, Err}
 use Rattle.bencode.specs.declared.profile.Profile.{Profile}
 use Rattle.bencode.specs.Depth.{largest_depth}
 use Rattle.bencode.specs.Walk.{payload_at}
 use Rattle.bencode.specs.Value.{Value, encode, WellFormed}
+use Rattle.bencode.specs.Fault.{Walk, cause_code}
 
 -- a payload is the encoding of a value that the profile allows
 abbrev pub Means : Profile → List ℕ → Value → Type 0
@@ -18,8 +18,8 @@ Means p s v = WellFormed p largest_depth v × (s ≡ encode v)
 module _ {A : Type 0} (p : Profile) (longest tooLong : ℕ) (refused : ℕ → ℕ → A) (meaning : Value → A) where
   -- the answer after the walk: its fault, or what the value means
   abbrev pub Walked : List ℕ → Walk → A → Type 0
-  Walked s (Walk.Fault f) a = a ≡ refused f.code f.offset
-  Walked s (Walk.End end) a = (v : Value) × Means p s v × (a ≡ meaning v)
+  Walked s (Err f) a = a ≡ refused (cause_code f.cause) f.offset
+  Walked s (Ok end) a = (v : Value) × Means p s v × (a ≡ meaning v)
 
   -- the answer to a payload
   pub record Judged (s : List ℕ) (a : A) : Type 0 where

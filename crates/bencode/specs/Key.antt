@@ -2,10 +2,11 @@
 -- `ElevenForUnsorted`; `is_fault_code` is to be believed. The key rule: which keys may follow which in a dictionary (document 01,
 -- 'The frame': in any order, and no key twice; document 02, request 03: keys are text; request 06: the strict profile).
 -- Assumes nothing.
-use Rattle.std.specs.Prelude.{ℕ, Bool, true, false, cond, ◌&&◌, ◌||◌, List, [], ◌∷◌, eqb, leb}
+use Rattle.std.specs.Prelude.{ℕ, Bool, true, false, cond, ◌&&◌, ◌||◌, List, [], ◌∷◌, eqb, leb, Option, Some, None}
 use Rattle.bencode.specs.declared.profile.Profile.{Profile}
 use Rattle.octets.specs.Bytes.{same, less}
 use Rattle.bencode.specs.Utf8.{is_text}
+use Rattle.bencode.specs.declared.fault.Cause.{Cause}
 
 -- is a key among the earlier ones
 unfoldable pub is_used : List ℕ → List (List ℕ) → Bool
@@ -17,18 +18,18 @@ unfoldable pub is_above : List ℕ → List (List ℕ) → Bool
 is_above key [] = true
 is_above key (k ∷ keys) = less k key && is_above key keys
 
--- the fault of a key that comes once: 11 in the strict profile where it is not above the earlier ones, 0 for none
-abbrev pub order_fault : Profile → Bool → ℕ
-order_fault Profile.Loose rises = 0
-order_fault Profile.Strict rises = cond rises 0 11
+-- the fault of a key that comes once: 11 in the strict profile where it is not above the earlier ones
+abbrev pub order_fault : Profile → Bool → Option Cause
+order_fault Profile.Loose rises = None
+order_fault Profile.Strict rises = cond rises None (Some Cause.UnsortedKey)
 
 -- the fault of a key that is text: 8 where it comes again, else that of its order
-abbrev pub compared_fault : Profile → List (List ℕ) → List ℕ → ℕ
-compared_fault p keys key = cond (is_used key keys) 8 (order_fault p (is_above key keys))
+abbrev pub compared_fault : Profile → List (List ℕ) → List ℕ → Option Cause
+compared_fault p keys key = cond (is_used key keys) (Some Cause.RepeatedKey) (order_fault p (is_above key keys))
 
--- the fault of a key after the earlier keys of its dictionary, the latest of them first: 10 where it is no text, 0 for none
-unfoldable pub key_fault : Profile → List (List ℕ) → List ℕ → ℕ
-key_fault p keys key = cond (is_text key) (compared_fault p keys key) 10
+-- the fault of a key after the earlier keys of its dictionary, the latest of them first: 10 where it is no text
+unfoldable pub key_fault : Profile → List (List ℕ) → List ℕ → Option Cause
+key_fault p keys key = cond (is_text key) (compared_fault p keys key) (Some Cause.IllFormedKey)
 
 -- is a code that of the order, 11 in the strict profile
 abbrev pub is_order_code : Profile → ℕ → Bool

@@ -2,8 +2,7 @@
 -- `text_list` and `id_list`. `ListOn` is pinned by the promise of `list`, and nothing public cites it.
 -- Items of one kind that stand one after another in a list.
 -- Assumes nothing.
-use Rattle.std.specs.Prelude.{ℕ, ◌<◌, ◌≤◌, ◌≡◌, List, length}
-use Rattle.bencode.specs.declared.fault.Walk.{Walk}
+use Rattle.std.specs.Prelude.{ℕ, ◌≤◌, ◌≡◌, List, length, Some, Ok}
 use Rattle.bencode.specs.declared.profile.Profile.{Profile}
 use Rattle.bencode.specs.Integers.{integer_at, after_positive}
 use Rattle.bencode.specs.Strings.{string_at, text_end}
@@ -17,11 +16,11 @@ pub data Run (item : ℕ → ℕ → Type 0) (from : ℕ) : ℕ → Type 0 where
 
 -- a string stands at an offset and ends at another
 abbrev pub TextAt : List ℕ → ℕ → ℕ → Type 0
-TextAt s at end = text_end (string_at s at) ≡ Walk.End end
+TextAt s at end = text_end (string_at s at) ≡ Ok end
 
 -- an integer from 1 to `high` stands at an offset and ends at another
 abbrev pub PositiveAt : ℕ → List ℕ → ℕ → ℕ → Type 0
-PositiveAt high s at end = (0 < end) × (end ≡ after_positive high (integer_at s at))
+PositiveAt high s at end = after_positive high (integer_at s at) ≡ Some end
 
 -- an offset is within the bytes, and a list comes from there on to what it comes to from another on, in any profile and at any
 -- depth

@@ -2,11 +2,11 @@
 -- integers.
 -- Assumes nothing.
 use Rattle.std.specs.Prelude.{ℕ, cond, List, eqb}
-use Rattle.bencode.specs.declared.fault.Walk.{Walk}
 use Rattle.octets.specs.Bytes.{byte_at}
 use Rattle.bencode.specs.Letters.{letter_i}
 use Rattle.bencode.specs.Strings.{string_at, text_end}
 use Rattle.bencode.specs.Integers.{integer_at, number_end}
+use Rattle.bencode.specs.Fault.{Walk}
 
 -- the offset after the string or the integer at an offset
 unfoldable pub scalar_at : List ℕ → ℕ → Walk

@@ -1,12 +1,12 @@
 -- Pinned by `SkipsValue`, `SkipsItems` and `SkipsEntries`. Where a value, or the rest of a list or dictionary, ends that has
 -- been walked before: keys and depth are not checked again, nesting is only counted.
 -- Assumes nothing.
-use Rattle.std.specs.Prelude.{ℕ, zero, suc, ◌+◌, ◌-◌, Bool, cond, ◌||◌, List, eqb}
-use Rattle.bencode.specs.declared.fault.Walk.{Walk}
+use Rattle.std.specs.Prelude.{ℕ, zero, suc, ◌+◌, ◌-◌, Bool, cond, ◌||◌, List, eqb, Ok, Err}
 use Rattle.octets.specs.Bytes.{byte_at}
 use Rattle.bencode.specs.Letters.{letter_d, letter_e, letter_l}
 use Rattle.bencode.specs.Loop.{LoopStep, next, done, repeat_from}
 use Rattle.bencode.specs.Scalar.{scalar_at}
+use Rattle.bencode.specs.Fault.{Walk}
 
 -- goes on at an offset and a depth, or ends there where nothing is open
 abbrev pub landed : ℕ → ℕ → LoopStep ℕ ℕ
@@ -15,8 +15,8 @@ landed at (suc depth) = next at (suc depth)
 
 -- after a string or an integer at an offset; where there is none, skipping ends at that offset
 abbrev pub past_scalar : ℕ → ℕ → Walk → LoopStep ℕ ℕ
-past_scalar at depth (Walk.End end) = landed end depth
-past_scalar at depth (Walk.Fault f) = done at
+past_scalar at depth (Ok end) = landed end depth
+past_scalar at depth (Err f) = done at
 
 -- does a byte open a list or a dictionary
 abbrev pub opens : ℕ → Bool

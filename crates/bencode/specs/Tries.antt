@@ -1,13 +1,13 @@
 -- Statements that antt computes: bytes that are text and bytes that are none, about the borders of RFC 3629's table; its
 -- examples as they are encoded; where and when 10 is given (document 02, request 03).
 -- Assumes nothing.
-use Rattle.std.specs.Prelude.{ℕ, ◌≡◌, Bool, true, false, List, [], ◌∷◌, ◌++◌, map}
-use Rattle.bencode.specs.declared.fault.Walk.{Walk}
+use Rattle.std.specs.Prelude.{ℕ, ◌≡◌, Bool, true, false, List, [], ◌∷◌, ◌++◌, map, Err}
 use Rattle.bencode.specs.declared.profile.Profile.{Profile}
 use Rattle.octets.specs.Ascii.{ascii}
 use Rattle.bencode.specs.Fault.{fault}
 use Rattle.bencode.specs.Utf8.{is_text, utf8_all}
 use Rattle.bencode.specs.Walk.{payload_at}
+use Rattle.bencode.specs.declared.fault.Cause.{Cause}
 
 -- bytes, and whether they are a text
 pub record Try : Type 0 where
@@ -60,6 +60,6 @@ TextsEncoded = (utf8_all (0x41 ∷ 0x2262 ∷ 0x391 ∷ 0x2E ∷ []) ≡ 0x41 �
 -- `d1:` and FF is 10 at the key's first length digit, though no value follows; `d2:` and FF is cut, so 5 at the end; a key
 -- `a` and FF after `b` is 10 in the strict profile too, not 11
 abbrev pub PlacesTried : Type 0
-PlacesTried = (payload_at Profile.Loose (ascii "d1:" ++ (0xFF ∷ [])) ≡ Walk.Fault (fault 10 1))
-    × (payload_at Profile.Loose (ascii "d2:" ++ (0xFF ∷ [])) ≡ Walk.Fault (fault 5 4))
-    × (payload_at Profile.Strict (ascii "d1:b0:2:a" ++ (0xFF ∷ [])) ≡ Walk.Fault (fault 10 6))
+PlacesTried = (payload_at Profile.Loose (ascii "d1:" ++ (0xFF ∷ [])) ≡ Err (fault Cause.IllFormedKey 1))
+    × (payload_at Profile.Loose (ascii "d2:" ++ (0xFF ∷ [])) ≡ Err (fault Cause.Syntax 4))
+    × (payload_at Profile.Strict (ascii "d1:b0:2:a" ++ (0xFF ∷ [])) ≡ Err (fault Cause.IllFormedKey 6))

@@ -1,8 +1,7 @@
 -- To be believed. The grammar: bencoded values, how each is written, and which are well formed (BEP 3, and document 01, 'The
 -- frame'; what a key may be also by document 02, request 03).
 -- Assumes nothing.
-use Rattle.std.specs.Prelude.{ℕ, zero, suc, ◌+◌, ◌≡◌, cond, List, [], ◌∷◌, ◌++◌, ℤ, pos, negsuc, length}
-use Rattle.bencode.specs.declared.entry.Entry.{Entry}
+use Rattle.std.specs.Prelude.{ℕ, zero, suc, ◌+◌, ◌≡◌, cond, List, [], ◌∷◌, ◌++◌, ℤ, pos, negsuc, length, None, Option, Some}
 use Rattle.bencode.specs.declared.profile.Profile.{Profile}
 use Rattle.octets.specs.Bytes.{same}
 use Rattle.bencode.specs.Letters.{letter_d, letter_e, letter_i, letter_l, colon, minus}
@@ -64,7 +63,7 @@ All formed (value v vs) = formed v × All formed vs
 -- every value of a dictionary is well formed, and every key may stand after the earlier ones
 abbrev pub AllEntries : Profile → (Value → Type 0) → List (List ℕ) → Entries → Type 0
 AllEntries p formed keys no_entry = Unit {0}
-AllEntries p formed keys (entry key v es) = (key_fault p keys key ≡ 0) × formed v × AllEntries p formed (key ∷ keys) es
+AllEntries p formed keys (entry key v es) = (key_fault p keys key ≡ None) × formed v × AllEntries p formed (key ∷ keys) es
 
 -- a value whose integers are in the range of 64 bits, whose keys are allowed and that is at most so many levels deep
 abbrev pub WellFormed : Profile → ℕ → Value → Type 0
@@ -88,11 +87,11 @@ lookup key no_entry = missing
 lookup key (entry k v es) = let rest = lookup key es in cond (same k key) (found v) rest
 
 -- where that value stands in the dictionary whose entries start at an offset
-abbrev pub lookup_at : List ℕ → Entries → ℕ → Entry
-lookup_at key no_entry at = Entry.Missing
+abbrev pub lookup_at : List ℕ → Entries → ℕ → Option ℕ
+lookup_at key no_entry at = None
 lookup_at key (entry k v es) at =
     let rest = lookup_at key es (at + length (encode_string k) + length (encode v)) in
-    cond (same k key) (Entry.At (at + length (encode_string k))) rest
+    cond (same k key) (Some (at + length (encode_string k))) rest
 
 -- what a value has under a key: nothing where it is no dictionary, or is not there itself
 abbrev pub under : List ℕ → Found → Found

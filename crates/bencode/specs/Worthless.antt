@@ -1,14 +1,14 @@
 -- Statements: wrong builds fall by the demand itself (document 02, requests 03 and 09).
 -- Assumes nothing.
-use Rattle.std.specs.Prelude.{ℕ, ◌≡◌, Bool, true, cond, ◌&&◌, List, [], ◌∷◌, leb, ltb, length, replicate}
-use Rattle.bencode.specs.declared.fault.Walk.{Walk}
+use Rattle.std.specs.Prelude.{ℕ, ◌≡◌, Bool, true, cond, ◌&&◌, List, [], ◌∷◌, leb, ltb, length, replicate, Ok}
 use Rattle.bencode.specs.declared.profile.Profile.{Profile}
-use Rattle.bencode.specs.Letters.{letter_l}
+use Rattle.bencode.specs.declared.tokens.Bracket.{Bracket}
 use Rattle.bencode.specs.Depth.{largest_depth}
 use Rattle.bencode.specs.Flat.{outside, Levels, at_start, turn}
 use Rattle.bencode.specs.Loop.{LoopStep, next, done, repeat_from}
 use Rattle.bencode.specs.Utf8.{is_text}
 use Rattle.bencode.specs.Demands.{KeyTextFor, SamePayloadFor}
+use Rattle.bencode.specs.Fault.{Walk}
 
 -- a recogniser that differs from ours, be it on one key only
 abbrev pub DifferentFalls : Type 0
@@ -44,14 +44,14 @@ forgotten before after = record { row = replicate largest_depth outside; depth =
 abbrev pub RowForgottenFalls : Type 0
 RowForgottenFalls = SamePayloadFor (altered forgotten) → ⊥
 
--- the mark of a dictionary is taken for a list's
+-- a dictionary is taken for a list
 abbrev pub list_marked : Levels → Levels → Levels
-list_marked before after = record { row = after.row; depth = after.depth; level = record { mark = letter_l; seen = after.level.seen }; valued = after.valued }
+list_marked before after = record { row = after.row; depth = after.depth; level = record { bracket = Bracket.List; seen = after.level.seen }; valued = after.valued }
 
 abbrev pub DictionaryAsListFalls : Type 0
 DictionaryAsListFalls = SamePayloadFor (altered list_marked) → ⊥
 
--- a level that closes stays the innermost, with its mark and its keys
+-- a level that closes stays the innermost, with its keys
 abbrev pub level_left : Levels → Levels → Levels
 level_left before after = cond (ltb after.depth before.depth) (record { row = after.row; depth = after.depth; level = before.level; valued = after.valued }) after
 
@@ -72,4 +72,4 @@ EndlessFalls = (step : Profile → List ℕ → ℕ → Levels → LoopStep Leve
 
 -- a walk that accepts everything
 abbrev pub EverythingFalls : Type 0
-EverythingFalls = SamePayloadFor (λ p s at x. done (Walk.End (length s))) → ⊥
+EverythingFalls = SamePayloadFor (λ p s at x. done (Ok (length s))) → ⊥

@@ -36,7 +36,7 @@ pub fn class_of(classes: &[u8; 256], b: u8) -> u8
     requires { is_table classes.now ≡ true }
     ensures { result ≡ class_of b }
 {
-    classes[b as usize]
+    classes[usize::from(b)]
 }
 
 // The class of the byte at an offset.

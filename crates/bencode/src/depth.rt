@@ -6,13 +6,6 @@ ghost use Rattle.bencode.specs.Depth.{nested};
 #[derive(Clone, Copy)]
 pub struct Depth(u8);
 
-// The depth inside one more list or dictionary, or that this is too deep.
-#[derive(Clone, Copy)]
-pub enum Deeper {
-    Depth(Depth),
-    TooDeep,
-}
-
 impl Depth {
     // How many lists and dictionaries may stand in each other, the outermost counted.
     pub const LARGEST: u8 = 16;
@@ -45,14 +38,10 @@ impl Depth {
         Depth(3)
     }
 
-    // The depth inside one list or dictionary more.
-    pub fn nested(self) -> Deeper
+    // The depth inside one list or dictionary more, or none where that is too deep.
+    pub fn nested(self) -> Option<Depth>
         ensures { result ≡ nested self }
     {
-        let levels = self.0;
-        if Depth::LARGEST <= levels {
-            return Deeper::TooDeep;
-        }
-        Deeper::Depth(Depth(levels + 1))
+        (self.0 < Depth::LARGEST).then(|| Depth(self.0 + 1))
     }
 }

@@ -2,9 +2,9 @@
 ghost use Rattle.std.specs.Prelude.{◌≡◌};
 ghost use Rattle.bencode.specs.Strings.{string_at};
 ghost use Rattle.bencode.specs.Integers.{integer_at};
-ghost use Rattle.bencode.specs.Field.{number_field, text_field, field_at, field_of};
+ghost use Rattle.bencode.specs.Field.{integer_in, number_field, text_field, field_at, field_of};
 
-use super::entry::{Entry, find};
+use super::entry::find;
 use super::integers::{Number, integer};
 use super::strings::{Text, string};
 use octets::byte_at;
@@ -17,37 +17,46 @@ pub enum Field {
     Text { start: usize, end: usize },
     List(usize),
     Dictionary(usize),
-    Missing,
 }
 
-fn integer_field(s: &[u8], at: usize) -> Field
+impl Field {
+    // The integer that it is, and the offset after it.
+    pub fn integer(self) -> Option<Number>
+        ensures { result ≡ integer_in self }
+    {
+        match self {
+            Field::Integer { value, end } => Some(Number { value, end }),
+            _ => None,
+        }
+    }
+}
+
+#[tactic(auto, using(crate::proofs::lookup::FieldLaws::field_number))]
+fn integer_field(s: &[u8], at: usize) -> Option<Field>
     ensures { result ≡ number_field (integer_at s.now at) }
 {
-    match integer(s, at) {
-        Number::Integer { value, end } => Field::Integer { value, end },
-        Number::Fault(_) => Field::Missing,
-    }
+    let Number { value, end } = integer(s, at).ok()?;
+    Some(Field::Integer { value, end })
 }
 
-fn text_field(s: &[u8], at: usize) -> Field
+fn text_field(s: &[u8], at: usize) -> Option<Field>
     ensures { result ≡ text_field (string_at s.now at) }
 {
-    match string(s, at) {
-        Text::Bytes { start, end } => Field::Text { start, end },
-        Text::Fault(_) => Field::Missing,
-    }
+    let Text { start, end } = string(s, at).ok()?;
+    Some(Field::Text { start, end })
 }
 
-// The value at an offset.
-pub fn field_at(s: &[u8], at: usize) -> Field
+// The value at an offset, or none where no value starts.
+#[tactic(auto, unfolding(crate::specs::Field::field_at))]
+pub fn field_at(s: &[u8], at: usize) -> Option<Field>
     ensures { result ≡ field_at s.now at }
 {
     let b = byte_at(s, at);
     if b == b'l' {
-        return Field::List(at + 1);
+        return Some(Field::List(at + 1));
     }
     if b == b'd' {
-        return Field::Dictionary(at + 1);
+        return Some(Field::Dictionary(at + 1));
     }
     if b == b'i' {
         return integer_field(s, at);
@@ -55,12 +64,10 @@ pub fn field_at(s: &[u8], at: usize) -> Field
     text_field(s, at)
 }
 
-// The value of a key in the dictionary whose entries start at an offset.
-pub fn field_of(s: &[u8], from: usize, key: &[u8]) -> Field
+// The value of a key in the dictionary whose entries start at an offset, or none where there is no such key.
+#[tactic(auto, unfolding(crate::specs::Field::field_of))]
+pub fn field_of(s: &[u8], from: usize, key: &[u8]) -> Option<Field>
     ensures { result ≡ field_of s.now key.now from }
 {
-    match find(s, from, key) {
-        Entry::At(at) => field_at(s, at),
-        Entry::Missing => Field::Missing,
-    }
+    field_at(s, find(s, from, key)?)
 }

@@ -7,37 +7,38 @@ ghost use Rattle.bencode.specs.Flat.{opened};
 ghost use Rattle.bencode.specs.Walk.{value_at, payload_at, payload_code, payload_offset};
 
 use super::classes::classes;
-use super::fault::Walk;
+use super::fault::Fault;
 use super::key::Seen;
 use super::profile::Profile;
-use super::tokens::{LEVELS, Level, Token, token_at};
+use super::tokens::{Bracket, LEVELS, Level, Token, token_at};
 use super::walk::whole;
 
-// The level that a byte opens, whose values or entries start at an offset.
-fn opened(mark: u8, first: usize) -> Level
-    ensures { result ≡ opened mark first }
+// The level that a list or a dictionary opens, whose values or entries start at an offset.
+fn opened(bracket: Bracket, first: usize) -> Level
+    ensures { result ≡ opened bracket first }
 {
     Level {
-        mark,
+        bracket,
         seen: Seen::none(first),
     }
 }
 
 // What the value that a payload starts with comes to. Each turn takes one token. The row has the levels around the innermost one,
 // as many as the depth; valued says that a value has to stand next.
-fn first_value(s: &[u8], profile: Profile) -> Walk
+fn first_value(s: &[u8], profile: Profile) -> Result<usize, Fault>
     ensures { result ≡ value_at profile largest_depth s.now 0 }
 {
     let table = classes();
-    let mut level = opened(0, 0);
+    let mut level = opened(Bracket::List, 0);
     let mut row = [level; LEVELS];
     let mut depth: usize = 0;
     let mut at: usize = 0;
     let mut valued = true;
     loop {
-        match token_at(s, at, depth, level, valued, profile, &table) {
-            Token::Done(walk) => {
-                return walk;
+        let token = token_at(s, at, depth, level, valued, profile, &table)?;
+        match token {
+            Token::Done(end) => {
+                return Ok(end);
             }
             Token::Close => {
                 depth -= 1;
@@ -45,13 +46,16 @@ fn first_value(s: &[u8], profile: Profile) -> Walk
                 at += 1;
             }
             Token::Key { seen, end } => {
-                level = Level { mark: b'd', seen };
+                level = Level {
+                    bracket: Bracket::Dictionary,
+                    seen,
+                };
                 at = end;
                 valued = true;
             }
-            Token::Open(mark) => {
+            Token::Open(bracket) => {
                 at += 1;
-                let inner = opened(mark, at);
+                let inner = opened(bracket, at);
                 row[depth] = level;
                 depth += 1;
                 level = inner;
@@ -66,7 +70,7 @@ fn first_value(s: &[u8], profile: Profile) -> Walk
 }
 
 // Walks a payload, which is one value and nothing after it.
-pub fn payload(s: &[u8], profile: Profile) -> Walk
+pub fn payload(s: &[u8], profile: Profile) -> Result<usize, Fault>
     ensures answer { result ≡ payload_at profile s.now }
     ensures numbers { (code_of result ≡ payload_code profile s.now) × (offset_of result ≡ payload_offset profile s.now) }
 {

@@ -3,14 +3,14 @@ ghost use Rattle.std.specs.Prelude.{◌≡◌, ◌^◌, ◌≤◌, pos, neg_ℤ,
 ghost use Rattle.bencode.specs.Fault.{after_of};
 ghost use Rattle.bencode.specs.Integers.{signed, in_range, integer_from, integer_at, number_end};
 
-use super::fault::{Fault, Walk};
+use super::fault::{Cause, Fault};
 use octets::{byte_at, numeral};
 
-// What stands where an integer is expected: its value and the offset after it, or the fault.
+// An integer, by its value and the offset after it.
 #[derive(Clone, Copy)]
-pub enum Number {
-    Integer { value: i64, end: usize },
-    Fault(Fault),
+pub struct Number {
+    pub value: i64,
+    pub end: usize,
 }
 
 impl Number {
@@ -25,70 +25,66 @@ fn negated(n: u64) -> i64
     requires { n ≤ 2 ^ 63 }
     ensures { result ≡ neg_ℤ (pos n) }
 {
-    if n == 0 {
-        return 0;
-    }
-    let less = (n - 1) as i64;
-    -1 - less
+    0i64.wrapping_sub_unsigned(n)
 }
 
 // The integer of a sign and a number, whose `i` is at `at`, where it is in the range.
-fn in_range(at: usize, negative: bool, number: u64, end: usize) -> Number
+fn in_range(at: usize, negative: bool, number: u64, end: usize) -> Result<Number, Fault>
     ensures { result ≡ in_range at (signed negative number) end }
 {
     if negative {
         if Number::LOWEST < number {
-            return Number::Fault(Fault {
-                code: Fault::RANGE,
+            return Err(Fault {
+                cause: Cause::Range,
                 offset: at,
             });
         }
-        return Number::Integer {
+        return Ok(Number {
             value: negated(number),
             end,
-        };
+        });
     }
     if Number::LARGEST < number {
-        return Number::Fault(Fault {
-            code: Fault::RANGE,
+        return Err(Fault {
+            cause: Cause::Range,
             offset: at,
         });
     }
-    Number::Integer {
+    Ok(Number {
         value: number as i64,
         end,
-    }
+    })
 }
 
 // The integer whose `i` is at `at` and whose digits are at `from`: its form is judged before its range.
-fn integer_from(s: &[u8], at: usize, from: usize, negative: bool) -> Number
+fn integer_from(s: &[u8], at: usize, from: usize, negative: bool) -> Result<Number, Fault>
     ensures { result ≡ integer_from s.now at from negative }
 {
     let n = numeral(s, from);
     let end = n.end;
     let number = n.number;
     if end == from {
-        return Number::Fault(Fault {
-            code: Fault::SYNTAX,
+        return Err(Fault {
+            cause: Cause::Syntax,
             offset: from,
         });
     }
     if byte_at(s, end) != b'e' {
-        return Number::Fault(Fault {
-            code: Fault::SYNTAX,
+        return Err(Fault {
+            cause: Cause::Syntax,
             offset: end,
         });
     }
     in_range(at, negative, number, end + 1)
 }
 
-// The integer at an offset.
-pub fn integer(s: &[u8], at: usize) -> Number
+// The integer at an offset, or the fault.
+pub fn integer(s: &[u8], at: usize) -> Result<Number, Fault>
     ensures { result ≡ integer_at s.now at }
 {
     if byte_at(s, at) != b'i' {
-        return Number::Fault(Fault {
-            code: Fault::SYNTAX,
+        return Err(Fault {
+            cause: Cause::Syntax,
             offset: at,
         });
     }
@@ -96,8 +92,8 @@ pub fn integer(s: &[u8], at: usize) -> Number
         return integer_from(s, at, at + 1, false);
     }
     if byte_at(s, at + 2) == b'0' {
-        return Number::Fault(Fault {
-            code: Fault::SYNTAX,
+        return Err(Fault {
+            cause: Cause::Syntax,
             offset: at + 2,
         });
     }
@@ -105,28 +101,23 @@ pub fn integer(s: &[u8], at: usize) -> Number
 }
 
 // The offset after the integer at an offset.
-pub fn integer_end(s: &[u8], at: usize) -> Walk
+pub fn integer_end(s: &[u8], at: usize) -> Result<usize, Fault>
     ensures { result ≡ number_end (integer_at s.now at) }
 {
-    match integer(s, at) {
-        Number::Integer { value: _, end } => Walk::End(end),
-        Number::Fault(f) => Walk::Fault(f),
-    }
+    let number = integer(s, at)?;
+    Ok(number.end)
 }
 
-// The offset after the integer at an offset, and 0 where there is none.
-pub fn after_integer(s: &[u8], at: usize) -> usize
+// The offset after the integer at an offset, if there is one.
+pub fn after_integer(s: &[u8], at: usize) -> Option<usize>
     ensures { result ≡ after_of (number_end (integer_at s.now at)) }
 {
-    match integer(s, at) {
-        Number::Integer { value: _, end } => end,
-        Number::Fault(_) => 0,
-    }
+    integer_end(s, at).ok()
 }
 
 // The distance of an integer from zero.
 pub fn magnitude(v: i64) -> u64
     ensures { result ≡ nat_abs v }
 {
-    if v < 0 { (!v) as u64 + 1 } else { v as u64 }
+    v.unsigned_abs()
 }

@@ -2,12 +2,13 @@
 ghost use Rattle.std.specs.Prelude.{◌≡◌, ◌≤◌, ◌<◌, length};
 ghost use Rattle.octets.specs.Bytes.{slice};
 ghost use Rattle.bencode.specs.Marks.{place_of};
-ghost use Rattle.bencode.specs.KeySearch.{none_seen, used_at, repeated_at, above_at, key_at};
+ghost use Rattle.bencode.specs.KeySearch.{none_seen, Inside, Sound, used_at, repeated_at, above_at, key_at};
 
-use super::entry::{Entry, find};
-use super::fault::Fault;
+use super::entry::find;
+use super::fault::{Cause, Fault};
 use super::marks::{is_marked, place, with_mark};
 use super::profile::Profile;
+use super::strings::Text;
 use octets::less;
 
 // What a walk keeps of a dictionary's earlier keys: the offset of the first entry, where the greatest key starts and ends,
@@ -34,87 +35,70 @@ impl Seen {
     }
 }
 
-// The check of a key: what is kept after it where it is allowed, or the code of its fault.
-#[derive(Clone, Copy)]
-pub enum KeyCheck {
-    Allowed(Seen),
-    Refused(u8),
-}
-
-// Is the key from start up to end an earlier key of its dictionary, whose first entry is at first. A search from there
-// finds the key itself at the latest, and an equal one before it.
-fn key_used(s: &[u8], first: usize, start: usize, end: usize) -> bool
-    requires { (start ≤ end) × (end ≤ length s.now) }
-    ensures { result ≡ used_at s.now first (slice s.now start end) end }
+// Is a key an earlier key of its dictionary, whose first entry is at first. A search from there finds the key itself at the latest,
+// and an equal one before it.
+#[tactic(auto, unfolding(crate::specs::KeySearch::used_at))]
+fn key_used(s: &[u8], first: usize, key: Text) -> bool
+    requires { Inside s.now key }
+    ensures { result ≡ used_at s.now first (slice s.now key.start key.end) key.end }
 {
-    match find(s, first, &s[start..end]) {
-        Entry::At(at) => at < end,
-        Entry::Missing => false,
-    }
+    find(s, first, &s[key.start..key.end]).is_some_and(|at| at < key.end)
 }
 
 // The same, by a search only where the key's mark, at a place, is there.
-fn key_repeated(s: &[u8], seen: Seen, start: usize, end: usize, place: u64) -> bool
-    requires { (start ≤ end) × (end ≤ length s.now) × (place ≡ place_of (slice s.now start end)) × (place < 64) }
-    ensures { result ≡ repeated_at s.now seen (slice s.now start end) end }
+#[tactic(auto, unfolding(crate::specs::KeySearch::repeated_at))]
+fn key_repeated(s: &[u8], seen: Seen, key: Text, place: u64) -> bool
+    requires inside { Inside s.now key }
+    requires place { (place ≡ place_of (slice s.now key.start key.end)) × (place < 64) }
+    ensures { result ≡ repeated_at s.now seen (slice s.now key.start key.end) key.end }
 {
-    let first = seen.first;
-    let marks = seen.marks;
-    if is_marked(marks, place) {
-        return key_used(s, first, start, end);
-    }
-    false
+    is_marked(seen.marks, place) && key_used(s, seen.first, key)
 }
 
-// Is the key from start up to end above the greatest of the entries before at.
-fn key_above(s: &[u8], seen: Seen, at: usize, start: usize, end: usize) -> bool
-    requires { (start ≤ end) × (end ≤ length s.now) × (seen.start ≤ seen.end) × (seen.end ≤ length s.now) }
-    ensures { result ≡ above_at s.now seen at (slice s.now start end) }
+// Is a key above the greatest of the entries before at.
+#[tactic(auto, unfolding(crate::specs::KeySearch::above_at))]
+fn key_above(s: &[u8], seen: Seen, at: usize, key: Text) -> bool
+    requires inside { Inside s.now key }
+    requires sound { Sound s.now seen }
+    ensures { result ≡ above_at s.now seen at (slice s.now key.start key.end) }
 {
-    let first = seen.first;
-    let from = seen.start;
-    let to = seen.end;
-    if at <= first {
-        return true;
-    }
-    less(&s[from..to], &s[start..end])
+    at <= seen.first || less(&s[seen.start..seen.end], &s[key.start..key.end])
 }
 
-// Whether the key from start up to end, a text whose entry is at `at`, may stand after the earlier keys.
+// What is kept after a key, a text whose entry is at an offset, or the fault of one that may not stand after the earlier keys.
 pub fn check_key(
     s: &[u8],
     seen: Seen,
     at: usize,
-    start: usize,
-    end: usize,
+    key: Text,
     profile: Profile,
-) -> KeyCheck
-    requires { (start ≤ end) × (end ≤ length s.now) × (seen.start ≤ seen.end) × (seen.end ≤ length s.now) }
-    ensures { result ≡ key_at profile s.now seen at start end }
+) -> Result<Seen, Fault>
+    requires inside { Inside s.now key }
+    requires sound { Sound s.now seen }
+    ensures { result ≡ key_at profile s.now seen at key.start key.end }
 {
-    let first = seen.first;
-    let from = seen.start;
-    let to = seen.end;
-    let place = place(&s[start..end]);
+    let place = place(&s[key.start..key.end]);
     let marks = with_mark(seen.marks, place);
-    if key_above(s, seen, at, start, end) {
-        return KeyCheck::Allowed(Seen {
-            first,
-            start,
-            end,
+    if key_above(s, seen, at, key) {
+        return Ok(Seen {
+            first: seen.first,
+            start: key.start,
+            end: key.end,
             marks,
         });
     }
-    if key_repeated(s, seen, start, end, place) {
-        return KeyCheck::Refused(Fault::REPEATED_KEY);
+    if key_repeated(s, seen, key, place) {
+        return Err(Fault {
+            cause: Cause::RepeatedKey,
+            offset: at,
+        });
     }
+    let unsorted = Fault {
+        cause: Cause::UnsortedKey,
+        offset: at,
+    };
     match profile {
-        Profile::Loose => KeyCheck::Allowed(Seen {
-            first,
-            start: from,
-            end: to,
-            marks,
-        }),
-        Profile::Strict => KeyCheck::Refused(Fault::UNSORTED_KEY),
+        Profile::Loose => Ok(Seen { marks, ..seen }),
+        Profile::Strict => Err(unsorted),
     }
 }

@@ -4,6 +4,7 @@
 
 mod classes;
 mod depth;
+mod digits;
 mod entry;
 mod fault;
 mod field;
@@ -29,11 +30,11 @@ mod text_keys;
 mod tokens;
 mod walk;
 
-pub use depth::{Deeper, Depth};
-pub use fault::{Fault, Walk};
+pub use depth::Depth;
+pub use fault::{Cause, Fault};
 pub use field::{Field, field_of};
 pub use integers::{Number, integer, magnitude};
-pub use item::{Item, item_at};
+pub use item::item_at;
 pub use lists::{list_rest, list_value, sublist_rest};
 pub use profile::Profile;
 pub use put::{integer_length, put_integer, put_string, string_head};

@@ -5,12 +5,13 @@ ghost use Rattle.bencode.specs.Walk.{value_at, list_at, whole};
 
 use super::classes::classes;
 use super::depth::Depth;
-use super::fault::Walk;
+use super::fault::Fault;
 use super::profile::Profile;
 use super::walk::{list, value, whole};
 
+// Stays: (e) the three differ in the function that they call and in the depth, which is all that they say.
 // The offset after a value of the list that is a payload.
-pub fn list_value(s: &[u8], at: usize, profile: Profile) -> Walk
+pub fn list_value(s: &[u8], at: usize, profile: Profile) -> Result<usize, Fault>
     ensures { result ≡ value_at profile list_levels s.now at }
 {
     let table = classes();
@@ -18,7 +19,7 @@ pub fn list_value(s: &[u8], at: usize, profile: Profile) -> Walk
 }
 
 // The rest of a payload that is a list, from a value of it on.
-pub fn list_rest(s: &[u8], at: usize, profile: Profile) -> Walk
+pub fn list_rest(s: &[u8], at: usize, profile: Profile) -> Result<usize, Fault>
     ensures { result ≡ whole s.now (list_at profile list_levels s.now at) }
 {
     let table = classes();
@@ -26,7 +27,7 @@ pub fn list_rest(s: &[u8], at: usize, profile: Profile) -> Walk
 }
 
 // The rest of a list that is a value of it.
-pub fn sublist_rest(s: &[u8], at: usize, profile: Profile) -> Walk
+pub fn sublist_rest(s: &[u8], at: usize, profile: Profile) -> Result<usize, Fault>
     ensures { result ≡ list_at profile sublist_levels s.now at }
 {
     let table = classes();

@@ -3,17 +3,13 @@ ghost use Rattle.std.specs.Prelude.{◌≡◌, ◌-◌, ◌<◌, length};
 ghost use Rattle.octets.specs.Bytes.{byte_at};
 ghost use Rattle.bencode.specs.Marks.{place_of, is_marked, with_mark};
 
-use octets::{byte_at, wide};
+use octets::byte_at;
 
 // The last byte of a key, and 0 for the empty one.
 fn last(key: &[u8]) -> u8
     ensures { result ≡ byte_at key.now (length key.now - 1) }
 {
-    let n = key.len();
-    if n == 0 {
-        return 0;
-    }
-    key[n - 1]
+    key.last().copied().unwrap_or(0)
 }
 
 // The place of a key's mark, by its length, its first and its last byte: so no two of the keys that document 002 names for
@@ -22,8 +18,8 @@ pub fn place(key: &[u8]) -> u64
     ensures { (result ≡ place_of key.now) × (result < 64) }
 {
     let n = key.len() as u64 % 64;
-    let first = wide(byte_at(key, 0));
-    (n * 7 + first * 2 + wide(last(key))) % 64
+    let first = u64::from(byte_at(key, 0));
+    (n * 7 + first * 2 + u64::from(last(key))) % 64
 }
 
 // Is the mark at a place there.

@@ -1,13 +1,13 @@
 // Integers from 1 to a bound.
-ghost use Rattle.std.specs.Prelude.{◌≡◌, true, ◌+◌, ◌≤◌, ◌<◌, length};
+ghost use Rattle.std.specs.Prelude.{◌≡◌, true, ◌+◌, ◌≤◌, length, Some, IfSome};
 ghost use Rattle.octets.specs.Bytes.{byte_at};
 ghost use Rattle.octets.specs.Numerals.{digits_at};
 ghost use Rattle.bencode.specs.Classes.{is_table};
 ghost use Rattle.bencode.specs.Integers.{BoundedDigits, integer_at, after_positive};
 
-use super::classes::class_of;
-use super::integers::{Number, integer};
-use octets::{byte_at, wide};
+use super::digits::digits_end;
+use super::integers::integer;
+use octets::byte_at;
 
 // At most this many digits are read at once.
 const TEN: usize = 10;
@@ -34,66 +34,44 @@ fn ten_digits(s: &[u8], from: usize, classes: &[u8; 256]) -> Bounded
     requires { (from + 10 ≤ length s.now) × (is_table classes.now ≡ true) }
     ensures { (from ≤ result.end) × (result.end ≤ from + 10) × (byte_at s.now result.end ≡ 101 → BoundedDigits s.now from result.end result.above (digits_at s.now from)) }
 {
-    let mut k: usize = 0;
-    while k < TEN {
-        if class_of(classes, s[from + k]) != b'0' {
-            return Bounded {
-                end: from + k,
-                above: ABOVE_FEWER,
-            };
-        }
-        k += 1;
+    let end = digits_end::<TEN>(s, from, classes);
+    if end < from + TEN {
+        return Bounded {
+            end,
+            above: ABOVE_FEWER,
+        };
     }
     Bounded {
-        end: from + TEN,
-        above: (wide(s[from]) * 10 + wide(s[from + 1]) - 527) * SECOND,
+        end,
+        above: (u64::from(s[from]) * 10 + u64::from(s[from + 1]) - 527) * SECOND,
     }
 }
 
-// The offset after the integer at an offset that is from 1 to another, if it has few digits. Where this is 0, it says nothing.
-pub fn plain_positive(s: &[u8], at: usize, high: u64, classes: &[u8; 256]) -> usize
+// The offset after the integer at an offset that is from 1 to another, if it has few digits; none says nothing.
+// Stays: (e) it has only its first test in common with `plain_end`, which takes 0 and asks no bound.
+pub fn plain_positive(s: &[u8], at: usize, high: u64, classes: &[u8; 256]) -> Option<usize>
     requires { is_table classes.now ≡ true }
-    ensures { 0 < result → result ≡ after_positive high (integer_at s.now at) }
+    ensures { IfSome result (λ end. after_positive high (integer_at s.now at) ≡ Some end) }
 {
-    if byte_at(s, at) != b'i' {
-        return 0;
-    }
-    let left = s.len() - at;
-    if left < ROOM {
-        return 0;
+    if byte_at(s, at) != b'i' || s.len() - at < ROOM {
+        return None;
     }
     let from = at + 1;
     let d = ten_digits(s, from, classes);
     let end = d.end;
-    if s[end] != b'e' {
-        return 0;
+    if s[end] != b'e' || s[from] == b'0' || end == from || high < d.above {
+        return None;
     }
-    if s[from] == b'0' {
-        return 0;
-    }
-    if end == from {
-        return 0;
-    }
-    if high < d.above {
-        return 0;
-    }
-    end + 1
+    Some(end + 1)
 }
 
-// The offset after the integer at an offset where it is from 1 to another, and 0 where it is not.
-pub fn after_positive(s: &[u8], at: usize, high: u64) -> usize
+// The offset after the integer at an offset, if it is from 1 to another.
+pub fn after_positive(s: &[u8], at: usize, high: u64) -> Option<usize>
     ensures { result ≡ after_positive high (integer_at s.now at) }
 {
-    match integer(s, at) {
-        Number::Integer { value, end } => {
-            if value < 1 {
-                return 0;
-            }
-            if high < (value as u64) {
-                return 0;
-            }
-            end
-        }
-        Number::Fault(_) => 0,
+    let number = integer(s, at).ok()?;
+    if number.value < 1 || high < number.value.unsigned_abs() {
+        return None;
     }
+    Some(number.end)
 }

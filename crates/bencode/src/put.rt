@@ -21,18 +21,13 @@ fn store_sign(out: &mut [u8], at: usize, v: i64) -> usize
     requires { at + length (sign v) ≤ length out.old }
     ensures { Wrote out.old at (sign v) out.new result }
 {
-    if v < 0 {
-        out[at] = b'-';
-        at + 1
-    } else {
-        at
-    }
+    if v < 0 { store_byte(out, at, b'-') } else { at }
 }
 
 fn sign_length(v: i64) -> usize
     ensures { (result ≡ length (sign v)) × (result ≤ 1) }
 {
-    if v < 0 { 1 } else { 0 }
+    usize::from(v < 0)
 }
 
 // How many bytes a bencoded integer has.
@@ -81,8 +76,7 @@ pub fn put_string(out: &mut [u8], at: usize, text: &[u8]) -> usize
     if lacks_room(out.len(), at, n) {
         return at;
     }
-    let head = decimal_length(n as u64) + 1;
-    if lacks_room(out.len() - n, at, head) {
+    if lacks_room(out.len() - n, at, string_head(n)) {
         return at;
     }
     store_string(out, at, text)

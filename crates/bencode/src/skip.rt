@@ -9,10 +9,7 @@ use octets::byte_at;
 fn opens(b: u8) -> bool
     ensures { result ≡ opens b }
 {
-    if b == b'l' {
-        return true;
-    }
-    b == b'd'
+    b == b'l' || b == b'd'
 }
 
 // Skips on from an offset with so many lists and dictionaries open. It ends early where no value stands.
@@ -20,6 +17,7 @@ fn skip_from(s: &[u8], from: usize, levels: usize) -> usize
     requires { levels ≤ 1 }
     ensures { result ≡ skip_from s.now from levels }
 {
+    // Stays: (e) the offset moves by items of any length, which no iterator of the library gives.
     let mut at = from;
     let mut depth: usize = levels;
     loop {
@@ -34,10 +32,9 @@ fn skip_from(s: &[u8], from: usize, levels: usize) -> usize
             }
             depth -= 1;
         } else {
-            let end = after_scalar(s, at);
-            if end == 0 {
+            let Some(end) = after_scalar(s, at) else {
                 return at;
-            }
+            };
             at = end;
             if depth == 0 {
                 return at;
@@ -50,11 +47,10 @@ fn skip_from(s: &[u8], from: usize, levels: usize) -> usize
 pub fn skip_value(s: &[u8], at: usize) -> usize
     ensures { result ≡ skip_value s.now at }
 {
-    let after = after_scalar(s, at);
-    if after != 0 {
-        return after;
+    match after_scalar(s, at) {
+        Some(end) => end,
+        None => skip_from(s, at, 0),
     }
-    skip_from(s, at, 0)
 }
 
 // The offset after the list or dictionary that an offset stands in, between two of its values.

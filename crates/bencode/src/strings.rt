@@ -3,65 +3,60 @@ ghost use Rattle.std.specs.Prelude.{◌≡◌};
 ghost use Rattle.bencode.specs.Fault.{after_of};
 ghost use Rattle.bencode.specs.Strings.{string_at, text_end};
 
-use super::fault::{Fault, Walk};
+use super::fault::{Cause, Fault};
 use octets::{byte_at, numeral};
 
-// What stands where a string is expected: the start and the end of its text, or the fault.
+// A string's text, by its start and its end.
 #[derive(Clone, Copy)]
-pub enum Text {
-    Bytes { start: usize, end: usize },
-    Fault(Fault),
+pub struct Text {
+    pub start: usize,
+    pub end: usize,
 }
 
-// The string at an offset.
-pub fn string(s: &[u8], at: usize) -> Text
+// The string at an offset: where its text is, or the fault.
+pub fn string(s: &[u8], at: usize) -> Result<Text, Fault>
     ensures { result ≡ string_at s.now at }
 {
     let n = numeral(s, at);
     let colon = n.end;
     let number = n.number;
     if colon == at {
-        return Text::Fault(Fault {
-            code: Fault::SYNTAX,
+        return Err(Fault {
+            cause: Cause::Syntax,
             offset: at,
         });
     }
     if byte_at(s, colon) != b':' {
-        return Text::Fault(Fault {
-            code: Fault::SYNTAX,
+        return Err(Fault {
+            cause: Cause::Syntax,
             offset: colon,
         });
     }
     let start = colon + 1;
     let left = (s.len() - start) as u64;
     if left < number {
-        return Text::Fault(Fault {
-            code: Fault::SYNTAX,
+        return Err(Fault {
+            cause: Cause::Syntax,
             offset: s.len(),
         });
     }
-    Text::Bytes {
+    Ok(Text {
         start,
         end: start + (number as usize),
-    }
+    })
 }
 
 // The offset after the string at an offset.
-pub fn string_end(s: &[u8], at: usize) -> Walk
+pub fn string_end(s: &[u8], at: usize) -> Result<usize, Fault>
     ensures { result ≡ text_end (string_at s.now at) }
 {
-    match string(s, at) {
-        Text::Bytes { start: _, end } => Walk::End(end),
-        Text::Fault(f) => Walk::Fault(f),
-    }
+    let text = string(s, at)?;
+    Ok(text.end)
 }
 
-// The offset after the string at an offset, and 0 where there is none.
-pub fn after_string(s: &[u8], at: usize) -> usize
+// The offset after the string at an offset, if there is one.
+pub fn after_string(s: &[u8], at: usize) -> Option<usize>
     ensures { result ≡ after_of (text_end (string_at s.now at)) }
 {
-    match string(s, at) {
-        Text::Bytes { start: _, end } => end,
-        Text::Fault(_) => 0,
-    }
+    string_end(s, at).ok()
 }

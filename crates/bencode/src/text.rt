@@ -1,106 +1,77 @@
 // Text: well-formed UTF-8 by RFC 3629 with no zero byte (document 02, request 03).
-ghost use Rattle.std.specs.Prelude.{◌≡◌, ℕ, ◌≤◌, length, drop};
+ghost use Rattle.std.specs.Prelude.{◌≡◌, ℕ, ◌≤◌, length};
 ghost use Rattle.bencode.specs.Utf8.{following, lowest, highest, text_from, is_text};
 
 use super::plain_text::plain_at;
 
 // How many bytes follow the first byte of a character; 4 for a byte that begins none.
-#[tactic(auto, using(crate::proofs::utf8::TextLaws::first_bytes))]
 fn following(b: u8) -> u8
     ensures { result ≡ following b }
 {
-    if b <= 0 {
-        return 4;
+    match b {
+        0 => 4,
+        0x01..=0x7F => 0,
+        0x80..=0xC1 => 4,
+        0xC2..=0xDF => 1,
+        0xE0..=0xEF => 2,
+        0xF0..=0xF4 => 3,
+        _ => 4,
     }
-    if b <= 0x7F {
-        return 0;
-    }
-    if b <= 0xC1 {
-        return 4;
-    }
-    if b <= 0xDF {
-        return 1;
-    }
-    if b <= 0xEF {
-        return 2;
-    }
-    if b <= 0xF4 {
-        return 3;
-    }
-    4
 }
 
 // The least second byte after a first one.
 fn lowest(b: u8) -> u8
     ensures { result ≡ lowest b }
 {
-    if b == 0xE0 {
-        return 0xA0;
+    match b {
+        0xE0 => 0xA0,
+        0xF0 => 0x90,
+        _ => 0x80,
     }
-    if b == 0xF0 {
-        return 0x90;
-    }
-    0x80
 }
 
 // The greatest second byte after a first one.
 fn highest(b: u8) -> u8
     ensures { result ≡ highest b }
 {
-    if b == 0xED {
-        return 0x9F;
+    match b {
+        0xED => 0x9F,
+        0xF4 => 0x8F,
+        _ => 0xBF,
     }
-    if b == 0xF4 {
-        return 0x8F;
-    }
-    0xBF
 }
 
-// Eight bytes further where those are ASCII but 0 and no byte of a character is to come, else the same offset: what is left from
-// there on decides as it did.
-fn after_ascii(x: &[u8], i: usize, left: u8) -> usize
-    requires { i ≤ length x.now }
-    ensures { (i ≤ result) × (result ≤ length x.now) × ((low high : ℕ) → text_from left low high (drop result x.now) ≡ text_from left low high (drop i x.now)) }
+// What is left after eight bytes where those are ASCII but 0 and no byte of a character is to come, else the same: it decides as
+// before.
+fn after_ascii(rest: &[u8], left: u8) -> &[u8]
+    ensures { (length result.now ≤ length rest.now) × ((low high : ℕ) → text_from left low high result.now ≡ text_from left low high rest.now) }
 {
-    if left != 0 {
-        return i;
+    if left == 0 && plain_at(rest, 0) {
+        return &rest[8..];
     }
-    if x.len() - i < 8 {
-        return i;
-    }
-    if plain_at(x, i) {
-        return i + 8;
-    }
-    i
+    rest
 }
 
-// Is a byte string text.
+// Is a byte string text. It stays a call, so that the walk's loop over entries does not hold its code.
+#[inline(never)]
 pub fn is_text(x: &[u8]) -> bool
     ensures { result ≡ is_text x.now }
 {
     let mut left: u8 = 0;
     let mut low: u8 = 0x80;
     let mut high: u8 = 0xBF;
-    let mut i = 0;
-    loop {
-        let at = after_ascii(x, i, left);
-        if x.len() <= at {
-            return left == 0;
-        }
-        let b = x[at];
-        i = at + 1;
+    let mut rest = x;
+    while let Some((b, after)) = after_ascii(rest, left).split_first() {
+        rest = after;
         if left == 0 {
-            left = following(b);
+            left = following(*b);
             if 3 < left {
                 return false;
             }
-            low = lowest(b);
-            high = highest(b);
+            low = lowest(*b);
+            high = highest(*b);
         } else {
-            if b < low {
-                return false;
-            }
-            if high < b {
+            if *b < low || high < *b {
                 return false;
             }
             left -= 1;
@@ -108,4 +79,5 @@ pub fn is_text(x: &[u8]) -> bool
             high = 0xBF;
         }
     }
+    left == 0
 }

@@ -4,24 +4,15 @@ ghost use Rattle.c_api.specs.Offered.{offered};
 
 use ipc::Given;
 
-// A value that the writer takes, or a number that is no kind of value.
-#[derive(Clone, Copy)]
-pub enum Offered {
-    Given(Given),
-    Unknown,
-}
-
-pub fn offered_of(kind: u32, integer: i64) -> Offered
+// The value of a kind, or none for a number that is no kind of value.
+#[tactic(auto, unfolding(crate::specs::Offered::offered))]
+pub fn offered_of(kind: u32, integer: i64) -> Option<Given>
     ensures { result ≡ offered kind integer }
 {
-    if kind == 0 {
-        return Offered::Given(Given::Nothing);
+    match kind {
+        0 => Some(Given::Nothing),
+        1 => Some(Given::Integer(integer)),
+        2 => Some(Given::Bytes),
+        _ => None,
     }
-    if kind == 1 {
-        return Offered::Given(Given::Integer(integer));
-    }
-    if kind == 2 {
-        return Offered::Given(Given::Bytes);
-    }
-    Offered::Unknown
 }

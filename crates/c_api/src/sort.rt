@@ -4,7 +4,7 @@ ghost use Rattle.canonical.specs.Answer.{sort_answer};
 ghost use Rattle.canonical.specs.SortWalk.{sorted_payload};
 ghost use Rattle.c_api.specs.Sort.{sort_numbers, SortedAs};
 
-use canonical::Sorted;
+use canonical::SortRefusal;
 
 // Code 0 and the count of the bytes written, or the refusal's code and offset.
 #[repr(C)]
@@ -15,20 +15,22 @@ pub struct SortAnswer {
     pub count: usize,
 }
 
-fn sort_answer_of(sorted: Sorted) -> SortAnswer
-    ensures { result ≡ sort_numbers sorted }
-{
-    match sorted {
-        Sorted::Count(count) => SortAnswer {
-            code: 0,
-            offset: 0,
-            count,
-        },
-        Sorted::Fault(f) => SortAnswer {
-            code: f.code,
-            offset: f.offset,
-            count: 0,
-        },
+impl From<Result<usize, SortRefusal>> for SortAnswer {
+    ghost from_gives = { λ sorted answer. answer ≡ sort_numbers sorted };
+
+    fn from(sorted: Result<usize, SortRefusal>) -> SortAnswer {
+        match sorted {
+            Ok(count) => SortAnswer {
+                code: 0,
+                offset: 0,
+                count,
+            },
+            Err(refusal) => SortAnswer {
+                code: refusal.code(),
+                offset: refusal.offset(),
+                count: 0,
+            },
+        }
     }
 }
 
@@ -37,5 +39,5 @@ fn sort_answer_of(sorted: Sorted) -> SortAnswer
 pub extern "C" fn bogsilver_sort(s: &[u8], out: &mut [u8]) -> SortAnswer
     ensures { SortedAs (sort_answer (length out.old) s.now) (sorted_payload s.now) out.old result out.new }
 {
-    sort_answer_of(canonical::sort(s, out))
+    SortAnswer::from(canonical::sort(s, out))
 }

@@ -3,7 +3,7 @@ ghost use Rattle.std.specs.Prelude.{◌≡◌};
 ghost use Rattle.bencode.specs.Walk.{payload_at};
 ghost use Rattle.c_api.specs.Walk.{profile_of, walk_numbers};
 
-use bencode::{Profile, Walk};
+use bencode::{Fault, Profile};
 
 // The fault's code and offset, or 0 and the payload's length.
 #[repr(C)]
@@ -23,13 +23,13 @@ fn profile(strict: bool) -> Profile
     }
 }
 
-fn walk_answer_of(walk: Walk) -> WalkAnswer
+fn walk_answer_of(walk: Result<usize, Fault>) -> WalkAnswer
     ensures { result ≡ walk_numbers walk }
 {
     match walk {
-        Walk::End(offset) => WalkAnswer { code: 0, offset },
-        Walk::Fault(f) => WalkAnswer {
-            code: f.code,
+        Ok(offset) => WalkAnswer { code: 0, offset },
+        Err(f) => WalkAnswer {
+            code: f.cause.code(),
             offset: f.offset,
         },
     }

@@ -2,7 +2,7 @@
 ghost use Rattle.std.specs.Prelude.{◌≡◌};
 ghost use Rattle.c_api.specs.Written.{written_numbers};
 
-use ipc::Written;
+use ipc::WriteRefusal;
 
 // Code 0 and the frame's byte count, or the code of the refusal and 0.
 #[repr(C)]
@@ -12,11 +12,14 @@ pub struct WriteAnswer {
     pub count: usize,
 }
 
-pub fn write_answer_of(written: Written) -> WriteAnswer
+pub fn write_answer_of(written: Result<usize, WriteRefusal>) -> WriteAnswer
     ensures { result ≡ written_numbers written }
 {
     match written {
-        Written::Count(count) => WriteAnswer { code: 0, count },
-        Written::Refused(code) => WriteAnswer { code, count: 0 },
+        Ok(count) => WriteAnswer { code: 0, count },
+        Err(refusal) => WriteAnswer {
+            code: refusal.code(),
+            count: 0,
+        },
     }
 }

@@ -2,22 +2,21 @@
 -- believed. Each is a type; its proof stands in proofs/ under the same name in lower case. A name with For is the statement over
 -- any build, so that a wrong one can be refuted by it (Worthless).
 -- Assumes nothing.
-use Rattle.std.specs.Prelude.{ℕ, ◌≡◌, ◌↔◌, false, cond, List, leb, length}
-use Rattle.bencode.specs.declared.fault.Walk.{Walk}
+use Rattle.std.specs.Prelude.{ℕ, ◌≡◌, ◌↔◌, false, cond, List, Result, Ok, Err, leb, length}
 use Rattle.bencode.specs.declared.profile.Profile.{Profile}
 use Rattle.bencode.specs.Judge.{Means, Judged}
 use Rattle.octets.specs.Bytes.{same}
 use Rattle.bencode.specs.Value.{Value, list, dictionary, no_value, value, Entries, entry, encode, WellFormed}
 use Rattle.bencode.specs.Walk.{payload_at}
-use Rattle.canonical.specs.declared.sorter.Sorted.{Sorted}
-use Rattle.canonical.specs.Answer.{largest_payload, sort_answer}
+use Rattle.canonical.specs.declared.sorter.SortRefusal.{SortRefusal}
+use Rattle.canonical.specs.Answer.{largest_payload, refusal_code, refusal_offset, sort_answer}
 use Rattle.canonical.specs.Order.{sorted}
 use Rattle.canonical.specs.Same.{SameValue}
 use Rattle.canonical.specs.SortWalk.{sorted_payload}
 
 -- a profile accepts a payload
 abbrev pub Accepted : Profile → List ℕ → Type 0
-Accepted p s = payload_at p s ≡ Walk.End (length s)
+Accepted p s = payload_at p s ≡ Ok (length s)
 
 -- ---- the answer
 -- what comes out: a count and bytes, or a refusal by code and offset
@@ -30,9 +29,9 @@ abbrev pub sorted_into : ℕ → Value → Outcome
 sorted_into room v = cond (leb (length (encode v)) room) (written (length (encode (sorted v))) (encode (sorted v))) (refused 44 0)
 
 -- what an answer says, where some bytes were to be written
-abbrev pub outcome_of : List ℕ → Sorted → Outcome
-outcome_of bytes (Sorted.Count n) = written n bytes
-outcome_of bytes (Sorted.Fault f) = refused f.code f.offset
+abbrev pub outcome_of : List ℕ → Result ℕ SortRefusal → Outcome
+outcome_of bytes (Ok n) = written n bytes
+outcome_of bytes (Err r) = refused (refusal_code r) (refusal_offset r)
 
 -- the answer by the grammar: 4 over the limit, then the loose walk's fault, then what the value comes to
 abbrev pub SortsJudged : Type 0

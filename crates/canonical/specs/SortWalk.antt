@@ -2,14 +2,15 @@
 -- `sorted_payload`. How the sorter goes over a payload that has been walked: by offsets, with no value in sight. A loop has at
 -- most as many turns as the payload has bytes, which is enough.
 -- Assumes nothing.
-use Rattle.std.specs.Prelude.{ℕ, zero, suc, ◌+◌, ◌≤◌, ◌≡◌, Bool, true, false, cond, List, [], ◌∷◌, ◌++◌, eqb, length}
+use Rattle.std.specs.Prelude.{ℕ, zero, suc, ◌+◌, ◌≤◌, ◌≡◌, Bool, true, false, cond, List, [], ◌∷◌, ◌++◌, Option, None, Some, eqb, length, Result, Ok, Err}
 use Rattle.octets.specs.Bytes.{byte_at, slice, less, Begins}
+use Rattle.bencode.specs.declared.fault.Fault.{Fault}
 use Rattle.bencode.specs.declared.profile.Profile.{Profile}
 use Rattle.bencode.specs.declared.strings.Text.{Text}
 use Rattle.bencode.specs.Depth.{largest_depth}
 use Rattle.bencode.specs.Letters.{letter_d, letter_e, letter_l}
 use Rattle.bencode.specs.Loop.{LoopStep, next, done, repeat_from}
-use Rattle.bencode.specs.Strings.{string_at}
+use Rattle.bencode.specs.Strings.{string_at, text_of}
 use Rattle.bencode.specs.Skip.{skip_value}
 use Rattle.bencode.specs.Value.{Value, encode, WellFormed}
 use Rattle.canonical.specs.declared.select.Pick.{Pick}
@@ -26,26 +27,43 @@ abbrev pub is_past : Bound → List ℕ → Bool
 is_past nothing key = true
 is_past (up_to k) key = less k key
 
--- ---- an entry that was picked
--- what has been written, where it was the last
-abbrev pub bound_of : List ℕ → Pick → Bound
-bound_of s Pick.None = nothing
-bound_of s (Pick.Entry at begin stop) = up_to (slice s begin stop)
+-- ---- an entry
+-- the one at an offset, whose key goes from an offset up to another
+abbrev pub entry_at : ℕ → ℕ → ℕ → Pick
+entry_at at begin stop = record { at = at; start = begin; end = stop }
 
--- its key is a part of the payload, and the entry starts at the payload's end at the latest
-abbrev pub Inside : List ℕ → Pick → Type 0
-Inside s Pick.None = Unit {0}
-Inside s (Pick.Entry at begin stop) = (at ≤ length s) × (begin ≤ stop) × (stop ≤ length s)
+-- its key
+abbrev pub key_of : List ℕ → Pick → List ℕ
+key_of s p = slice s p.start p.end
+
+-- its key is a part of the payload, and it starts at the payload's end at the latest
+abbrev pub Stands : List ℕ → Pick → Type 0
+Stands s p = (p.at ≤ length s) × (p.start ≤ p.end) × (p.end ≤ length s)
+
+-- a step of the walk over the entries: none where no key stands; else the entry at the offset, and the offset after it
+abbrev pub EntryStep : List ℕ → ℕ → Option Pick → ℕ → Type 0
+EntryStep s at None after = (f : Fault) × (string_at s at ≡ Err f)
+EntryStep s at (Some p) after = (string_at s at ≡ Ok (text_of p.start p.end)) × (p.at ≡ at) × (after ≡ skip_value s p.end) × Stands s p
+
+-- ---- an entry that was picked, if one was
+-- what has been written, where it was the last
+abbrev pub bound_of : List ℕ → Option Pick → Bound
+bound_of s None = nothing
+bound_of s (Some p) = up_to (key_of s p)
+
+abbrev pub Inside : List ℕ → Option Pick → Type 0
+Inside s None = Unit {0}
+Inside s (Some p) = Stands s p
 
 -- is a key below its own; any key is below none
-abbrev pub is_below : List ℕ → Pick → List ℕ → Bool
-is_below s Pick.None key = true
-is_below s (Pick.Entry at begin stop) key = less key (slice s begin stop)
+abbrev pub is_below : List ℕ → Option Pick → List ℕ → Bool
+is_below s None key = true
+is_below s (Some p) key = less key (key_of s p)
 
 -- ---- do the keys rise
-abbrev pub rise_text : List ℕ → Bound → Text → LoopStep Bound Bool
-rise_text s b (Text.Bytes begin stop) = cond (is_past b (slice s begin stop)) (next (skip_value s stop) (up_to (slice s begin stop))) (done false)
-rise_text s b (Text.Fault f) = done true
+abbrev pub rise_text : List ℕ → Bound → Result Text Fault → LoopStep Bound Bool
+rise_text s b (Ok t) = cond (is_past b (slice s t.start t.end)) (next (skip_value s t.end) (up_to (slice s t.start t.end))) (done false)
+rise_text s b (Err f) = done true
 
 abbrev pub rise_step : List ℕ → ℕ → Bound → LoopStep Bound Bool
 rise_step s at b = rise_text s b (string_at s at)
@@ -55,24 +73,24 @@ unfoldable pub rises_at : List ℕ → ℕ → Bound → Bool
 rises_at s at b = repeat_from s (rise_step s) true at b
 
 -- ---- the entry with the least key past a bound
--- the better of the best so far and the entry at an offset, whose key goes from an offset up to another
-abbrev pub better_at : List ℕ → Pick → ℕ → ℕ → ℕ → Pick
-better_at s best at begin stop = cond (is_below s best (slice s begin stop)) (Pick.Entry at begin stop) best
+-- the better of the best so far and an entry
+abbrev pub better_at : List ℕ → Option Pick → Pick → Option Pick
+better_at s best p = cond (is_below s best (key_of s p)) (Some p) best
 
 -- the best after that entry, which counts where its key is past a bound
-abbrev pub preferred_at : List ℕ → Bound → Pick → ℕ → ℕ → ℕ → Pick
-preferred_at s b best at begin stop = cond (is_past b (slice s begin stop)) (better_at s best at begin stop) best
+abbrev pub preferred_at : List ℕ → Bound → Option Pick → Pick → Option Pick
+preferred_at s b best p = cond (is_past b (key_of s p)) (better_at s best p) best
 
-abbrev pub least_text : List ℕ → Bound → ℕ → Pick → Text → LoopStep Pick Pick
-least_text s b at best (Text.Bytes begin stop) = next (skip_value s stop) (preferred_at s b best at begin stop)
-least_text s b at best (Text.Fault f) = done best
+abbrev pub least_text : List ℕ → Bound → ℕ → Option Pick → Result Text Fault → LoopStep (Option Pick) (Option Pick)
+least_text s b at best (Ok t) = next (skip_value s t.end) (preferred_at s b best (entry_at at t.start t.end))
+least_text s b at best (Err f) = done best
 
-abbrev pub least_step : List ℕ → Bound → ℕ → Pick → LoopStep Pick Pick
+abbrev pub least_step : List ℕ → Bound → ℕ → Option Pick → LoopStep (Option Pick) (Option Pick)
 least_step s b at best = least_text s b at best (string_at s at)
 
 -- that entry, of those from an offset on, after the best so far
-unfoldable pub least_at : List ℕ → Bound → ℕ → Pick → Pick
-least_at s b at best = repeat_from s (least_step s b) Pick.None at best
+unfoldable pub least_at : List ℕ → Bound → ℕ → Option Pick → Option Pick
+least_at s b at best = repeat_from s (least_step s b) None at best
 
 -- ---- what is written, where `value` is what is written for the value at an offset
 -- at most n values from an offset on, up to an `e`; each has as many bytes as are written for it
@@ -81,14 +99,14 @@ values_from value s zero at = []
 values_from value s (suc n) at = cond (eqb (byte_at s at) letter_e) [] (value at ++ values_from value s n (at + length (value at)))
 
 -- the entry that was picked, which is a key and a value, and what comes after it
-abbrev pub chosen : (ℕ → List ℕ) → List ℕ → Pick → (Bound → List ℕ) → List ℕ
-chosen value s Pick.None rest = []
-chosen value s (Pick.Entry at begin stop) rest = values_from value s 2 at ++ rest (up_to (slice s begin stop))
+abbrev pub chosen : (ℕ → List ℕ) → List ℕ → Option Pick → (Bound → List ℕ) → List ℕ
+chosen value s None rest = []
+chosen value s (Some p) rest = values_from value s 2 p.at ++ rest (up_to (key_of s p))
 
 -- at most n entries past a bound, the least key first
 unfoldable pub selected : (ℕ → List ℕ) → List ℕ → ℕ → ℕ → Bound → List ℕ
 selected value s first zero b = []
-selected value s first (suc n) b = chosen value s (least_at s b first Pick.None) (λ c. selected value s first n c)
+selected value s first (suc n) b = chosen value s (least_at s b first None) (λ c. selected value s first n c)
 
 -- the entries of a dictionary: as they stand where their keys rise
 unfoldable pub entries_at : (ℕ → List ℕ) → List ℕ → ℕ → List ℕ

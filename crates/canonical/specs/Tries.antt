@@ -1,12 +1,13 @@
 -- Statements, by computing: payloads and what the sorter writes for them, and its answers (document 02, request 06).
 -- Assumes nothing.
-use Rattle.std.specs.Prelude.{◌≡◌, List, [], ◌∷◌, map}
+use Rattle.std.specs.Prelude.{◌≡◌, List, [], ◌∷◌, Ok, Err, map}
 use Prim.Native.String.{String}
 use Rattle.octets.specs.Ascii.{ascii}
 use Rattle.bencode.specs.Fault.{fault}
-use Rattle.canonical.specs.declared.sorter.Sorted.{Sorted}
+use Rattle.canonical.specs.declared.sorter.SortRefusal.{SortRefusal}
 use Rattle.canonical.specs.Answer.{sort_answer}
 use Rattle.canonical.specs.SortWalk.{sorted_payload}
+use Rattle.bencode.specs.declared.fault.Cause.{Cause}
 
 -- a payload, and what is written for it
 pub record Try : Type 0 where
@@ -33,6 +34,6 @@ SortsTried = map (λ t. sorted_payload (ascii t.payload)) tries ≡ map (λ t. a
 
 -- a payload with as many bytes lent as it has; with one less, 44; where it has a fault, that comes before 44
 abbrev pub AnswersTried : Type 0
-AnswersTried = (sort_answer 12 (ascii "d1:b0:1:a0:e") ≡ Sorted.Count 12)
-    × (sort_answer 11 (ascii "d1:b0:1:a0:e") ≡ Sorted.Fault (fault 44 0))
-    × (sort_answer 0 (ascii "d1:a0:1:a0:e") ≡ Sorted.Fault (fault 8 6))
+AnswersTried = (sort_answer 12 (ascii "d1:b0:1:a0:e") ≡ Ok 12)
+    × (sort_answer 11 (ascii "d1:b0:1:a0:e") ≡ Err SortRefusal.NoRoom)
+    × (sort_answer 0 (ascii "d1:a0:1:a0:e") ≡ Err (SortRefusal.Payload (fault Cause.RepeatedKey 6)))

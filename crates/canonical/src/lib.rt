@@ -6,4 +6,4 @@ mod select;
 mod sorter;
 mod write;
 
-pub use sorter::{Sorted, sort};
+pub use sorter::{SortRefusal, sort};

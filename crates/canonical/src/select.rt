@@ -1,101 +1,99 @@
 // Which entry of a dictionary comes next in order: the one with the least key above that of the last one written.
-ghost use Rattle.std.specs.Prelude.{◌≡◌, ◌≤◌, length};
-ghost use Rattle.octets.specs.Bytes.{slice};
-ghost use Rattle.canonical.specs.declared.select.Pick.{Pick};
-ghost use Rattle.canonical.specs.SortWalk.{nothing, is_past, bound_of, Inside, is_below, preferred_at, rises_at, least_at};
+ghost use Rattle.std.specs.Prelude.{◌≡◌, ◌≤◌, ◌-◌, length};
+ghost use Rattle.std.specs.Iterator.{at_most};
+ghost use Rattle.octets.specs.Bytes.{less};
+ghost use Rattle.canonical.specs.SortWalk.{nothing, is_past, bound_of, key_of, Stands, EntryStep, Inside, rises_at, least_at};
 
-use bencode::{Text, skip_value, string};
-use octets::less;
+use bencode::{skip_value, string};
 
-// An entry of a dictionary, by its offset and by where its key starts and ends; or none.
+// An entry of a dictionary: its offset, and where its key starts and ends.
 #[derive(Clone, Copy)]
-pub enum Pick {
-    Entry { at: usize, start: usize, end: usize },
-    None,
+pub struct Pick {
+    pub at: usize,
+    start: usize,
+    end: usize,
 }
 
-// Is the key from start up to end above that of the last entry written, if there is one.
-fn is_past(s: &[u8], last: Pick, start: usize, end: usize) -> bool
-    requires { (start ≤ end) × (end ≤ length s.now) × Inside s.now last }
-    ensures { result ≡ is_past (bound_of s.now last) (slice s.now start end) }
-{
-    match last {
-        Pick::None => true,
-        Pick::Entry {
-            at: _,
-            start: from,
-            end: to,
-        } => less(&s[from..to], &s[start..end]),
+impl Pick {
+    // The key.
+    fn key<'a>(self, s: &'a [u8]) -> &'a [u8]
+        requires { Stands s.now self }
+        ensures { result.now ≡ key_of s.now self }
+    {
+        &s[self.start..self.end]
+    }
+
+    // Is its key above another's.
+    fn is_above(self, s: &[u8], other: Pick) -> bool
+        requires { Stands s.now self × Stands s.now other }
+        ensures { result ≡ less (key_of s.now other) (key_of s.now self) }
+    {
+        octets::less(other.key(s), self.key(s))
     }
 }
 
-// Is the key from start up to end below that of the best entry, if there is one.
-fn is_below(s: &[u8], best: Pick, start: usize, end: usize) -> bool
-    requires { (start ≤ end) × (end ≤ length s.now) × Inside s.now best }
-    ensures { result ≡ is_below s.now best (slice s.now start end) }
-{
-    match best {
-        Pick::None => true,
-        Pick::Entry {
-            at: _,
-            start: from,
-            end: to,
-        } => less(&s[start..end], &s[from..to]),
-    }
+// The entries of a dictionary from an offset on, up to what is no key.
+#[derive(Drop)]
+struct Entries<'a> {
+    s: &'a [u8],
+    at: usize,
 }
 
-// The better of the best entry so far and the one at an offset, whose key goes from start up to end. Where that key is not above
-// that of the last entry written, the best so far stays.
-fn preferred(s: &[u8], last: Pick, best: Pick, at: usize, start: usize, end: usize) -> Pick
-    requires { (start ≤ end) × (end ≤ length s.now) × Inside s.now last × Inside s.now best }
-    ensures { result ≡ preferred_at s.now (bound_of s.now last) best at start end }
-{
-    if is_past(s, last, start, end) {
-        if is_below(s, best, start, end) {
-            return Pick::Entry { at, start, end };
+impl<'a> Iterator for Entries<'a> {
+    type Item = Pick;
+
+    ghost next_gives = { λ e r f. (f.s.now ≡ e.s.now) × EntryStep e.s.now e.at r f.at };
+
+    ghost remaining = { λ e. at_most (length e.s.now - e.at) };
+
+    fn next(&mut self) -> Option<Pick> {
+        match string(self.s, self.at) {
+            Err(_) => None,
+            Ok(text) => {
+                let at = self.at;
+                self.at = skip_value(self.s, text.end);
+                Some(Pick {
+                    at,
+                    start: text.start,
+                    end: text.end,
+                })
+            }
         }
     }
-    best
+}
+
+// Is an entry's key above that of the last entry written, if there is one.
+fn is_past(s: &[u8], last: Option<Pick>, entry: Pick) -> bool
+    requires { Inside s.now last × Stands s.now entry }
+    ensures { result ≡ is_past (bound_of s.now last) (key_of s.now entry) }
+{
+    last.is_none_or(|l| entry.is_above(s, l))
 }
 
 // Do the keys rise from the entry at an offset on.
 pub fn rises(s: &[u8], from: usize) -> bool
     ensures { result ≡ rises_at s.now from nothing }
 {
-    let mut at = from;
-    let mut last = Pick::None;
-    loop {
-        match string(s, at) {
-            Text::Fault(_) => {
-                return true;
-            }
-            Text::Bytes { start, end } => {
-                if !is_past(s, last, start, end) {
-                    return false;
-                }
-                last = Pick::Entry { at, start, end };
-                at = skip_value(s, end);
-            }
+    let mut last = None;
+    for entry in (Entries { s, at: from }) {
+        if !is_past(s, last, entry) {
+            return false;
         }
+        last = Some(entry);
     }
+    true
 }
 
 // The entry with the least key above the last one written, of those from an offset on.
-pub fn least(s: &[u8], from: usize, last: Pick) -> Pick
+pub fn least(s: &[u8], from: usize, last: Option<Pick>) -> Option<Pick>
     requires { Inside s.now last }
-    ensures { (result ≡ least_at s.now (bound_of s.now last) from Pick.None) × Inside s.now result }
+    ensures { (result ≡ least_at s.now (bound_of s.now last) from None) × Inside s.now result }
 {
-    let mut at = from;
-    let mut best = Pick::None;
-    loop {
-        match string(s, at) {
-            Text::Fault(_) => {
-                return best;
-            }
-            Text::Bytes { start, end } => {
-                best = preferred(s, last, best, at, start, end);
-                at = skip_value(s, end);
-            }
+    let mut best = None;
+    for entry in (Entries { s, at: from }) {
+        if is_past(s, last, entry) && best.is_none_or(|b: Pick| b.is_above(s, entry)) {
+            best = Some(entry);
         }
     }
+    best
 }

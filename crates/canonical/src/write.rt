@@ -4,7 +4,7 @@ ghost use Rattle.std.specs.Prelude.{◌≡◌, ◌+◌, ◌≤◌, length};
 ghost use Rattle.octets.specs.Put.{Wrote};
 ghost use Rattle.canonical.specs.SortWalk.{nothing, values_from, selected, entries_at, copied_at, sorted_at};
 
-use super::select::{Pick, least, rises};
+use super::select::{least, rises};
 use bencode::skip_value;
 use octets::{byte_at, put_bytes};
 
@@ -50,17 +50,15 @@ fn put_items(s: &[u8], from: usize, most: usize, levels: usize, out: &mut [u8], 
     requires { (from ≤ length s.now) × (to + length (values_from (sorted_at levels s.now) s.now most from) ≤ length out.old) }
     ensures { Wrote out.old to (values_from (sorted_at levels s.now) s.now most from) out.new result }
 {
-    let mut left = most;
     let mut at = from;
     let mut o = to;
-    while 0 < left {
+    for _turn in 0..most {
         if byte_at(s, at) == b'e' {
             return o;
         }
         let end = put_value(s, at, levels, out, o);
         at += end - o;
         o = end;
-        left -= 1;
     }
     o
 }
@@ -78,30 +76,18 @@ fn put_entries(s: &[u8], first: usize, levels: usize, out: &mut [u8], to: usize)
 }
 
 // Writes the entries by key, each found by a walk over all of them: it is two values, a key and what the key has. There are fewer
-// entries than bytes, so `left` ends no dictionary early; it shows that the loop ends.
+// entries than bytes, so the range ends no dictionary early; it shows that the loop ends.
 #[cycle(put_entries_put_items_put_selected_put_value)]
 fn put_selected(s: &[u8], first: usize, levels: usize, out: &mut [u8], to: usize) -> usize
     requires { to + length (selected (sorted_at levels s.now) s.now first (length s.now) nothing) ≤ length out.old }
     ensures { Wrote out.old to (selected (sorted_at levels s.now) s.now first (length s.now) nothing) out.new result }
 {
-    let mut left = s.len();
-    let mut last = Pick::None;
+    let mut last = None;
     let mut o = to;
-    while 0 < left {
+    for _turn in 0..s.len() {
         last = least(s, first, last);
-        match last {
-            Pick::None => {
-                return o;
-            }
-            Pick::Entry {
-                at,
-                start: _,
-                end: _,
-            } => {
-                o = put_items(s, at, 2, levels, out, o);
-            }
-        }
-        left -= 1;
+        let Some(entry) = last else { return o };
+        o = put_items(s, entry.at, 2, levels, out, o);
     }
     o
 }

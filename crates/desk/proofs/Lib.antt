@@ -15,3 +15,4 @@ pub mod ListFixed
 pub mod DaemonTried
 pub mod Worthless
 pub mod CountedOpening
+pub mod NumbersTell

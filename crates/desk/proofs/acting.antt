@@ -1,4 +1,3 @@
 pub mod RefusalLaws
 pub mod PlanLaws
-pub mod ArmLaws
 pub mod CallLaws

@@ -2,11 +2,14 @@
 -- return the record as it was handed in and count 0; the frames stand joined from the buffer's start, the count is their bytes
 -- in all, and past them the buffer is unchanged).
 -- Assumes nothing.
-use Rattle.std.specs.Prelude.{ℕ, ◌≡◌, cond, List, [], leb, eqb, length}
+use Rattle.std.specs.Prelude.{ℕ, ◌≡◌, cond, List, [], leb, eqb, length, Result}
 use Rattle.octets.specs.Put.{at_front}
 use Rattle.desk.specs.declared.call.Call.{Call}
 use Rattle.desk.specs.declared.record.Desk.{Desk}
+use Rattle.desk.specs.declared.done.Accepted.{Accepted}
+use Rattle.desk.specs.declared.done.Refusal.{Refusal}
 use Rattle.desk.specs.declared.done.Done.{Done}
+use Rattle.desk.specs.Codes.{answer_code, answer_count, done_code, done_count}
 use Rattle.desk.specs.Command.{Command, frames_of}
 use Rattle.desk.specs.Refusal.{call_fault}
 use Rattle.desk.specs.Plan.{Outcome, plan}
@@ -35,9 +38,18 @@ delivered room d o = cond (leb (length o.sent) room) o (refused 34 d)
 unfoldable pub outcome : Call → ℕ → Desk → Outcome (List ℕ)
 outcome c room d = delivered room d (framed (decided c d))
 
--- what its function returns
-unfoldable pub returned : Outcome (List ℕ) → Done
+-- what its function returns, by document 01's numbers
+pub record Reply : Type 0 where
+  pub code : ℕ
+  pub count : ℕ
+  pub desk : Desk
+
+unfoldable pub returned : Outcome (List ℕ) → Reply
 returned o = record { code = o.code; count = length o.sent; desk = o.desk }
+
+-- the same of its answer
+abbrev pub done_numbers : Done → Reply
+done_numbers r = record { code = done_code r; count = done_count r; desk = r.desk }
 
 -- the buffer after it
 unfoldable pub buffer_after : Outcome (List ℕ) → List ℕ → List ℕ
@@ -45,5 +57,11 @@ buffer_after o before = at_front o.sent before
 
 -- both: the promise of a call
 pub record Returned (o : Outcome (List ℕ)) (before : List ℕ) (r : Done) (after : List ℕ) : Type 0 where
-  pub answered : r ≡ returned o
+  pub answered : done_numbers r ≡ returned o
+  pub buffer : after ≡ buffer_after o before
+
+-- the same but for the record: what the tests and the frames leave
+pub record Answered (o : Outcome (List ℕ)) (before : List ℕ) (r : Result Accepted Refusal) (after : List ℕ) : Type 0 where
+  pub code : answer_code r ≡ o.code
+  pub count : answer_count r ≡ length o.sent
   pub buffer : after ≡ buffer_after o before

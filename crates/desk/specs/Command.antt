@@ -2,7 +2,7 @@
 -- no tag, and no frame for no ID, are to be believed. The commands that the desk sends, and their frames as the frame writer
 -- writes them (document 01, 'The desk').
 -- Assumes nothing.
-use Rattle.std.specs.Prelude.{ℕ, ◌≤◌, ◌≡◌, ◌⊎◌, List, [], ◌∷◌, ◌++◌, ℤ, pos, length}
+use Rattle.std.specs.Prelude.{ℕ, ◌≤◌, ◌≡◌, ◌⊎◌, List, [], ◌∷◌, ◌++◌, ℤ, pos, length, Ok}
 use Rattle.bencode.specs.Value.{integer, list, Values, no_value, value, encode}
 use Rattle.ipc.specs.declared.writer.Given.{Given}
 use Rattle.ipc.specs.Header.{largest_payload}
@@ -67,6 +67,10 @@ unfoldable pub listing : (List ℕ → Command) → List ℕ → List Command
 listing c [] = []
 listing c (x ∷ xs) = c (x ∷ xs) ∷ []
 
+-- the commands of a raise or a clear: both limits, IDs to stop and IDs to start
+abbrev pub four_commands : ℤ → ℤ → List ℕ → List ℕ → List Command
+four_commands down up stops starts = Command.set_down down ∷ (Command.set_up up ∷ (listing Command.stop stops ++ listing Command.start starts))
+
 -- the most bytes that a call writes
 abbrev pub longest_frames : ℕ
 longest_frames = 479
@@ -79,7 +83,7 @@ listed_frame tag key (x ∷ xs) = ids_frame tag key (x ∷ xs)
 
 -- the frame writer writes a message wherever its frame has room
 abbrev pub Writable : ℕ → ℕ → Given → List ℕ → Type 0
-Writable tag key given s = (message_fault key given s tag ≡ 0) × (length (payload_of key given s tag) ≤ largest_payload)
+Writable tag key given s = (message_fault key given s tag ≡ Ok tt) × (length (payload_of key given s tag) ≤ largest_payload)
 
 abbrev pub LimitKey : ℕ → Type 0
 LimitKey key = (key ≡ downlimit_key) ⊎ (key ≡ uplimit_key)

@@ -1,3 +1,4 @@
+pub mod Codes
 pub mod Limit
 pub mod Watch
 pub mod Record

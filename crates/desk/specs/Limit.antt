@@ -1,8 +1,8 @@
 -- To be believed. Limits (document 01, 'The desk': -1 for none, to 1,000,000 kilobytes a second).
 -- Assumes nothing.
-use Rattle.std.specs.Prelude.{Bool, cond, ◌&&◌, ℤ, pos, negsuc}
+use Rattle.std.specs.Prelude.{Bool, cond, ◌&&◌, ℤ, pos, negsuc, Option, Some, None}
 use Rattle.std.specs.Int.Signed.{le_z}
-use Rattle.desk.specs.declared.limit.OptionalLimit.{OptionalLimit}
+use Rattle.desk.specs.declared.limit.Limit.{Limit}
 
 -- -1: no limit
 abbrev pub unlimited : ℤ
@@ -16,5 +16,5 @@ unfoldable pub is_limit : ℤ → Bool
 is_limit n = le_z unlimited n && le_z n largest_limit
 
 -- the limit of a number
-unfoldable pub limit_of : ℤ → OptionalLimit
-limit_of n = cond (is_limit n) (OptionalLimit.Limit (record { 0 = n })) OptionalLimit.None
+unfoldable pub limit_of : ℤ → Option Limit
+limit_of n = cond (is_limit n) (Some (record { 0 = n })) None

@@ -1,8 +1,9 @@
 -- To be believed; `IdsRead` and `DaemonTried` show how bytes are read. The two machines of demand 3 (document 01, 'The desk'):
 -- each is two limits and a set of running IDs.
 -- Assumes nothing.
-use Rattle.std.specs.Prelude.{ℕ, zero, suc, ◌+◌, Bool, false, cond, not, ◌&&◌, ◌||◌, List, [], ◌∷◌, leb, eqb, ℤ, nat_abs, length, drop}
+use Rattle.std.specs.Prelude.{ℕ, zero, suc, ◌+◌, Bool, false, cond, not, ◌&&◌, ◌||◌, List, [], ◌∷◌, leb, eqb, ℤ, nat_abs, length, drop, Result, Ok, Err}
 use Rattle.std.proofs.Math.Option.{Option, some, none}
+use Rattle.bencode.specs.declared.fault.Fault.{Fault}
 use Rattle.bencode.specs.declared.integers.Number.{Number}
 use Rattle.octets.specs.Bytes.{slice}
 use Rattle.bencode.specs.Integers.{integer_at}
@@ -30,10 +31,10 @@ obey (Command.stop ids) m = record { down = m.down; up = m.up; runs = λ x. not 
 
 -- ---- the daemon: it takes bytes frame by frame, as the frame reader reads them
 -- the IDs of a list of integers from an offset on, at most so many: up to the first byte that begins no integer, the list's `e`
-unfoldable pub ids_from : ℕ → List ℕ → Number → List ℕ
+unfoldable pub ids_from : ℕ → List ℕ → Result Number Fault → List ℕ
 ids_from zero s n = []
-ids_from (suc more) s (Number.Integer z end) = nat_abs z ∷ ids_from more s (integer_at s end)
-ids_from (suc more) s (Number.Fault f) = []
+ids_from (suc more) s (Ok n) = nat_abs n.value ∷ ids_from more s (integer_at s n.end)
+ids_from (suc more) s (Err f) = []
 
 -- the IDs of a list
 unfoldable pub ids_in : List ℕ → List ℕ

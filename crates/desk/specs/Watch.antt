@@ -58,9 +58,10 @@ unfoldable pub list_fault : List Watch → List Watch → ℕ
 list_fault seen [] = 0
 list_fault seen (w ∷ ws) = cond (is_id w.id) (cond (has w.id seen) 37 (list_fault (seen ++ (w ∷ [])) ws)) 36
 
--- the records that a start or stop lists: all but an ID, those marked running, or those marked stopped
+-- the records that a start or stop lists: all but an ID, that ID alone, those marked running, or those marked stopped
 abbrev pub picked : Pick → Watch → Bool
 picked (Pick.But x) w = not (eqb w.id x)
+picked (Pick.Only x) w = eqb w.id x
 picked Pick.Running w = w.running
 picked Pick.Stopped w = not w.running
 

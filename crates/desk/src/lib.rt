@@ -19,7 +19,7 @@ mod watch;
 
 pub use call::Call;
 pub use calls::perform;
-pub use done::{Done, LONGEST_FRAMES, Opened};
+pub use done::{Accepted, Done, LONGEST_FRAMES, Opened, OpeningRefusal, Refusal};
 pub use opening::{open, open_records};
 pub use record::{Desk, closed_desk};
 pub use watch::{PLACES, Watch};

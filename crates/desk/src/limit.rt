@@ -6,13 +6,6 @@ ghost use Rattle.desk.specs.Limit.{is_limit, limit_of};
 #[derive(Clone, Copy)]
 pub struct Limit(i32);
 
-// A limit, or none where the number is out of range.
-#[derive(Clone, Copy)]
-pub enum OptionalLimit {
-    Limit(Limit),
-    None,
-}
-
 impl Limit {
     // No limit.
     pub const UNLIMITED: i32 = -1;
@@ -20,16 +13,13 @@ impl Limit {
     pub const LARGEST: i32 = 1000000;
 
     // The limit of a number, or none where it is out of range.
-    pub fn new(n: i32) -> OptionalLimit
+    pub fn new(n: i32) -> Option<Limit>
         ensures { result ≡ limit_of n }
     {
-        if n < Limit::UNLIMITED {
-            return OptionalLimit::None;
+        if n < Limit::UNLIMITED || Limit::LARGEST < n {
+            return None;
         }
-        if Limit::LARGEST < n {
-            return OptionalLimit::None;
-        }
-        OptionalLimit::Limit(Limit(n))
+        Some(Limit(n))
     }
 }
 
@@ -37,8 +27,5 @@ impl Limit {
 pub fn is_limit(n: i32) -> bool
     ensures { result ≡ is_limit n }
 {
-    match Limit::new(n) {
-        OptionalLimit::Limit(_) => true,
-        OptionalLimit::None => false,
-    }
+    Limit::new(n).is_some()
 }

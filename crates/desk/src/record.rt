@@ -1,12 +1,13 @@
 // The desk's record.
-ghost use Rattle.std.specs.Prelude.{◌≡◌};
-ghost use Rattle.desk.specs.Record.{closed};
+ghost use Rattle.std.specs.Prelude.{◌≡◌, drop};
+ghost use Rattle.desk.specs.Record.{watched, closed};
 
-use super::lists::no_places;
+use super::lists::padded;
 use super::watch::{PLACES, Watch};
 
 // What is desired of the daemon: both limits and the watched transfers, of which `count` places are used. `override_id` is the
 // transfer that an override gives the link to, and 0 where none stands.
+// Stays: an ID and a count, and no Option and slice, as document 01 has any record handed in by value, with 0 for none.
 #[derive(Clone, Copy)]
 pub struct Desk {
     pub opened: bool,
@@ -17,17 +18,32 @@ pub struct Desk {
     pub watch: [Watch; PLACES],
 }
 
+impl Desk {
+    // The records in use: all places where the count is over them.
+    pub(crate) fn watched(&self) -> &[Watch]
+        ensures { result.now ≡ watched self.now }
+    {
+        &self.watch[..self.count.min(PLACES)]
+    }
+
+    // The places after them.
+    pub(crate) fn unused(&self) -> &[Watch]
+        ensures { result.now ≡ drop self.now.count self.now.watch }
+    {
+        &self.watch[self.count.min(PLACES)..]
+    }
+}
+
 // A closed desk, which document 01 calls shut: zero throughout.
 pub fn closed_desk() -> Desk
     ensures { result ≡ closed }
 {
-    let watch = no_places();
     Desk {
         opened: false,
         count: 0,
         down: 0,
         up: 0,
         override_id: 0,
-        watch,
+        watch: padded(&[]),
     }
 }

@@ -11,7 +11,6 @@ use borrow.Author.Tests.{eqb-true, leb-true}
 use lib.Dec.{leb}
 use lib.ListN.{length, take, drop, length-append, take-append-drop}
 use lib.Seq.{length-take-le, take-append_seam, drop_at}
-use Rattle.bencode.specs.declared.fault.Walk.{Walk}
 use Rattle.bencode.specs.declared.profile.Profile.{Profile}
 use Rattle.octets.specs.Bytes.{byte_at, slice, Begins}
 use Rattle.bencode.specs.Depth.{largest_depth}
@@ -20,25 +19,26 @@ use Rattle.bencode.specs.Value.{Value, integer, string, list, dictionary, encode
 use Rattle.bencode.proofs.Grammar.{accepts_exactly as payload-accepts}
 use Rattle.bencode.proofs.Judgement.{walked_whole}
 use Rattle.bencode.proofs.Lookups.{starts, items_begin, entries_begin}
-use Rattle.ipc.specs.declared.header.Header.{Header}
-use Rattle.ipc.specs.declared.header.Sized.{Sized}
+use Rattle.std.specs.Prelude.{Ok, Err}
+use Rattle.ipc.specs.declared.reading.Refusal.{Refusal}
 use Rattle.ipc.specs.Answer.{Answer, refused, answer_of}
 use Rattle.ipc.specs.Header.{largest_payload, protocol_payload, hex_value, header_in, read_header}
 use Rattle.ipc.specs.Reader.{payload_reading, reading_by, read_frame_by, read_frame}
 use Rattle.ipc.specs.Meaning.{meaning}
 use Rattle.ipc.specs.Demands.{HexDigits, none, more, hex_from, FramedBy, AnswersMeaningBy, AnswersMeaning, AcceptsExactlyBy, AcceptsExactly, Headed, AnswerRowBy, framed, short_header, short_payload, no_digit, over_protocol, over_limit, payload_fault, AnswersByRowBy, AnswersByRow}
 use Rattle.ipc.proofs.headers.HeaderLaws.{in_some, in_none}
-use Rattle.ipc.proofs.frames.ReaderLaws.{payload_fault as fault-payload, payload_dictionary, payload_list, payload_scalar, length_short, length_there, sized_fits, sized_over_limit, sized_over_protocol, frame_no_digit, frame_short, frame_sized}
+use Rattle.ipc.proofs.frames.ReaderLaws.{payload_fault as fault-payload, payload_dictionary, payload_list, payload_scalar, length_short, length_there, sized_fits, sized_over_limit, sized_over_protocol, frame_refused, frame_sized}
 use Rattle.ipc.proofs.meaning.Messages.{message_means}
 use Rattle.bencode.specs.Key.{is_order_code, is_fault_code}
 use Rattle.octets.proofs.sequences.Order.{clash}
 use Rattle.bencode.proofs.FaultCodes.{faults_coded}
 use Rattle.ipc.proofs.meaning.Handshakes.{handshake_means}
+use Rattle.bencode.specs.Fault.{Walk, cause_code}
 
 -- ---- payloads
 -- the answer to the encoding of a well-formed value is what it means. Over any number of levels: with 16 antt writes all of
 -- them out
-walked_means : (profile : Profile) (levels : ℕ) (v : Value) → WellFormed profile levels v → payload_at profile (encode v) ≡ Walk.End (length (encode v)) → Begins (encode v) 0 (encode v) (length (encode v))
+walked_means : (profile : Profile) (levels : ℕ) (v : Value) → WellFormed profile levels v → payload_at profile (encode v) ≡ Ok (length (encode v)) → Begins (encode v) 0 (encode v) (length (encode v))
     → answer_of (payload_reading profile (encode v)) ≡ meaning (8 + length (encode v)) v
 walked_means profile levels (integer z) h e b =
     let p = encode (integer z) in
@@ -62,24 +62,24 @@ pub payload_means : (profile : Profile) (v : Value) → WellFormed profile large
 payload_means profile v h = walked_means profile largest_depth v h ((payload-accepts profile (encode v)).1 (v, h, refl)) (record { rest = []; is = sym (append-nil (encode v)); ends = omega arith })
 
 -- ---- headers
-header_before : (ds rest : List ℕ) (k i v : ℕ) → length ds ≡ k → HexDigits ds → header_in k i v (ds ++ rest) ≡ Header.Length (hex_from v ds)
+header_before : (ds rest : List ℕ) (k i v : ℕ) → length ds ≡ k → HexDigits ds → header_in k i v (ds ++ rest) ≡ Ok (hex_from v ds)
 unfolding hex_from header_in
 header_before [] rest zero i v e p = refl
 header_before [] rest (suc k) i v e p = absurd (omega arith)
 header_before (c ∷ cs) rest zero i v e p = absurd (omega arith)
 header_before (c ∷ cs) rest (suc k) i v e (more h p) = in_some k i v c (cs ++ rest) h ∙ header_before cs rest k (i + 1) (16 * v + hex_value c) (omega arith) p
 
-header_short : (ds : List ℕ) (k i v : ℕ) → length ds < k → HexDigits ds → header_in k i v ds ≡ Header.Short
+header_short : (ds : List ℕ) (k i v : ℕ) → length ds < k → HexDigits ds → header_in k i v ds ≡ Err Refusal.Incomplete
 unfolding header_in
 header_short ds zero i v e p = absurd (omega arith)
 header_short [] (suc k) i v e p = refl
 header_short (c ∷ cs) (suc k) i v e (more h p) = in_some k i v c cs h ∙ header_short cs k (i + 1) (16 * v + hex_value c) (omega arith) p
 
-header_no_digit : (ds rest : List ℕ) (c k i v : ℕ) → length ds < k → HexDigits ds → 16 ≤ hex_value c → header_in k i v (ds ++ (c ∷ rest)) ≡ Header.NoDigit (i + length ds)
+header_no_digit : (ds rest : List ℕ) (c k i v : ℕ) → length ds < k → HexDigits ds → 16 ≤ hex_value c → header_in k i v (ds ++ (c ∷ rest)) ≡ Err (Refusal.NoDigit (i + length ds))
 header_no_digit ds rest c zero i v e p h = absurd (omega arith)
-header_no_digit [] rest c (suc k) i v e p h = in_none k i v c rest h ∙ ap (λ (n : ℕ). Header.NoDigit n) (omega arith)
+header_no_digit [] rest c (suc k) i v e p h = in_none k i v c rest h ∙ ap (λ (n : ℕ). Err (Refusal.NoDigit n)) (omega arith)
 header_no_digit (d ∷ ds) rest c (suc k) i v e (more g p) h =
-    in_some k i v d (ds ++ (c ∷ rest)) g ∙ header_no_digit ds rest c k (i + 1) (16 * v + hex_value d) (omega arith) p h ∙ ap (λ (n : ℕ). Header.NoDigit n) (omega arith)
+    in_some k i v d (ds ++ (c ∷ rest)) g ∙ header_no_digit ds rest c k (i + 1) (16 * v + hex_value d) (omega arith) p h ∙ ap (λ (n : ℕ). Err (Refusal.NoDigit n)) (omega arith)
 
 -- what the first k bytes are: hex digits; fewer of them, and no other byte; or a byte that is none
 data Digits (k : ℕ) (s : List ℕ) : Type 0 where
@@ -121,9 +121,9 @@ other_code c l h judged = absurd (⊎_elim (λ (q : c ≡ 0). omega arith) (λ (
 -- ---- each row has its answer
 module _ (profile : Profile) (s : List ℕ) where
   module _ (n : ℕ) (after : List ℕ) (h : Headed s n after) where
-    headed_length : read_header s ≡ Header.Length n
+    headed_length : read_header s ≡ Ok n
     unfolding read_header
-    headed_length = ap read_header h.is ∙ header_before h.header after 8 0 0 h.eight h.hex ∙ ap (λ (k : ℕ). Header.Length k) h.number
+    headed_length = ap read_header h.is ∙ header_before h.header after 8 0 0 h.eight h.hex ∙ ap (λ (k : ℕ). Ok k) h.number
 
     headed_size : length s ≡ 8 + length after
     headed_size = ap length h.is ∙ length-append h.header after ∙ omega (arith, h.eight)
@@ -136,7 +136,7 @@ module _ (profile : Profile) (s : List ℕ) where
       let m : (8 + n) - 8 ≡ n = omega arith in
       let rest : drop 8 s ≡ p ++ after = ap (drop 8) h.is ∙ drop_at h.header (p ++ after) 8 h.eight in
       let payload : slice s 8 (8 + n) ≡ p = ap (λ (k : ℕ). take k (drop 8 s)) m ∙ ap (take n) rest ∙ take-append_seam p after in
-      ap (payload_reading profile) (sym payload) ∙ length_there profile s n (omega arith) ∙ frame_sized profile s n (Sized.Length (record { 0 = n })) (headed_length n (p ++ after) h) (sized_fits n small)
+      ap (payload_reading profile) (sym payload) ∙ length_there profile s n (omega arith) ∙ frame_sized profile s n (Ok (record { 0 = n })) (headed_length n (p ++ after) h) (sized_fits n small)
 
   row_answered : (a : Answer) → AnswerRowBy profile s a → a ≡ read_frame_by profile s
   unfolding read_header
@@ -144,19 +144,19 @@ module _ (profile : Profile) (s : List ℕ) where
       let v = f.payload in
       let h : Headed s (length (encode v)) (encode v ++ f.rest) = record { header = f.header; is = f.is; eight = f.eight; hex = f.hex; number = f.number } in
       sym f.means ∙ sym (payload_means profile v f.formed) ∙ ap answer_of (headed_payload (encode v) f.rest h f.small)
-  row_answered a (short_header p few) = ap answer_of (frame_short profile s (header_short s 8 0 0 few p))
+  row_answered a (short_header p few) = ap answer_of (frame_refused profile s Refusal.Incomplete (header_short s 8 0 0 few p))
   row_answered a (short_payload n after h small few) =
       let size = headed_size n after h in
-      ap answer_of (length_short profile s n (omega arith) ∙ frame_sized profile s n (Sized.Length (record { 0 = n })) (headed_length n after h) (sized_fits n small))
-  row_answered a (no_digit before after c is p few g) = ap answer_of (frame_no_digit profile s (length before) (ap read_header is ∙ header_no_digit before after c 8 0 0 few p g ∙ ap (λ (n : ℕ). Header.NoDigit n) (omega arith)))
-  row_answered a (over_protocol n after h large) = ap answer_of (frame_sized profile s n Sized.OverProtocol (headed_length n after h) (sized_over_protocol n large))
-  row_answered a (over_limit n after h large small) = ap answer_of (frame_sized profile s n Sized.OverLimit (headed_length n after h) (sized_over_limit n large small))
+      ap answer_of (length_short profile s n (omega arith) ∙ frame_sized profile s n (Ok (record { 0 = n })) (headed_length n after h) (sized_fits n small))
+  row_answered a (no_digit before after c is p few g) = ap answer_of (frame_refused profile s (Refusal.NoDigit (length before)) (ap read_header is ∙ header_no_digit before after c 8 0 0 few p g ∙ ap (λ (n : ℕ). Err (Refusal.NoDigit n)) (omega arith)))
+  row_answered a (over_protocol n after h large) = ap answer_of (frame_sized profile s n (Err Refusal.OverProtocol) (headed_length n after h) (sized_over_protocol n large))
+  row_answered a (over_limit n after h large small) = ap answer_of (frame_sized profile s n (Err Refusal.OverLimit) (headed_length n after h) (sized_over_limit n large small))
   row_answered a (payload_fault p after f h small e) = ap answer_of (fault-payload profile p f e ∙ headed_payload p after h small)
 
   -- ---- all bytes have a row
   payload_row : (p after : List ℕ) → Headed s (length p) (p ++ after) → length p ≤ largest_payload → (w : Walk) → payload_at profile p ≡ w → (a : Answer) × AnswerRowBy profile s a
-  payload_row p after h small (Walk.Fault f) e = (refused f.code f.offset, payload_fault p after f h small e)
-  payload_row p after h small (Walk.End end) e =
+  payload_row p after h small (Err f) e = (refused (cause_code f.cause) f.offset, payload_fault p after f h small e)
+  payload_row p after h small (Ok end) e =
       let v = (payload-accepts profile p).0 (walked_whole profile p end e) in
       let size : length p ≡ length (encode v.0) = ap length v.2 in (
         meaning (8 + length (encode v.0)) v.0,
@@ -210,7 +210,7 @@ accepted_framed profile s a judged (short_payload n after h small few) = other_c
 accepted_framed profile s a judged (no_digit before after c is p few g) = other_code 2 (omega arith) (omega arith) judged
 accepted_framed profile s a judged (over_protocol n after h large) = other_code 3 (omega arith) (omega arith) judged
 accepted_framed profile s a judged (over_limit n after h large small) = other_code 4 (omega arith) (omega arith) judged
-accepted_framed profile s a judged (payload_fault p after f h small e) = let b = fault_code profile f.code (faults_coded profile p f e) in other_code f.code (omega arith) (omega arith) judged
+accepted_framed profile s a judged (payload_fault p after f h small e) = let b = fault_code profile (cause_code f.cause) (faults_coded profile p f e) in other_code (cause_code f.cause) (omega arith) (omega arith) judged
 
 pub accepts_exactly_by : AcceptsExactlyBy
 accepts_exactly_by profile s a judged = (λ e. accepted_framed profile s a judged ((answers_by_row_by profile s a).0 e), answers_meaning_by profile s a)

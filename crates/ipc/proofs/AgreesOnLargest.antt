@@ -7,9 +7,11 @@ use native.Mathlib.Omega.{arith}
 use borrow.Author.Tests.{leb-true, leb-false}
 use lib.Dec.{leb}
 use lib.IntN.{pos}
-use Rattle.ipc.specs.declared.versions.OptionalVersions.{OptionalVersions}
 use Rattle.ipc.specs.Versions.{range_of, agreed, agreed_version, IsRange, InBoth, AgreesOnLargest}
 use Rattle.ipc.proofs.frames.VersionLaws.{range_made, range_none}
+use Rattle.ipc.specs.declared.versions.Versions.{Versions}
+use Rattle.std.specs.Prelude.{Option, Some, None}
+use Rattle.std.specs.Option.{unwrap_or}
 
 module _ (low high low2 high2 : ℕ) where
   -- what is said of an answer
@@ -19,7 +21,7 @@ module _ (low high low2 high2 : ℕ) where
   none_agrees : ((n : ℕ) → InBoth low high low2 high2 n → ⊥) → Agrees 0
   none_agrees h = (λ z. absurd (z refl), λ n b. absurd (h n b), λ z. h, λ k. refl)
 
-  common_agrees : IsRange low high → IsRange low2 high2 → (t : Bool) → leb (max low low2) (min high high2) ≡ t → Agrees (cond t (min high high2) 0)
+  common_agrees : IsRange low high → IsRange low2 high2 → (t : Bool) → leb (max low low2) (min high high2) ≡ t → Agrees (unwrap_or (cond t (Some (min high high2)) None) 0)
   common_agrees r s true e =
       let h : max low low2 ≤ min high high2 = leb-true (max low low2) (min high high2) e in
       let both : InBoth low high low2 high2 (min high high2) = (record { range = r; above = omega arith; below = omega arith }, record { range = s; above = omega arith; below = omega arith }) in
@@ -28,13 +30,13 @@ module _ (low high low2 high2 : ℕ) where
       let h = leb-false (max low low2) (min high high2) e in
       none_agrees (λ n b. omega (arith, h, b.0.above, b.0.below, b.1.above, b.1.below))
 
-  ranges_agree : (x y : OptionalVersions) → range_of (pos low) (pos high) ≡ x → range_of (pos low2) (pos high2) ≡ y → Agrees (agreed x y)
-  ranges_agree (OptionalVersions.Range v) (OptionalVersions.Range w) e f =
+  ranges_agree : (x y : Option Versions) → range_of (pos low) (pos high) ≡ x → range_of (pos low2) (pos high2) ≡ y → Agrees (unwrap_or (agreed x y) 0)
+  ranges_agree (Some v) (Some w) e f =
       let r = range_made low high v e in
       let s = range_made low2 high2 w f in
       rw (r.1, s.1) (common_agrees r.0 s.0 (leb (max low low2) (min high high2)) refl)
-  ranges_agree (OptionalVersions.Range v) OptionalVersions.None e f = none_agrees (λ n b. range_none low2 high2 f b.1.range)
-  ranges_agree OptionalVersions.None y e f = none_agrees (λ n b. range_none low high e b.0.range)
+  ranges_agree (Some v) None e f = none_agrees (λ n b. range_none low2 high2 f b.1.range)
+  ranges_agree None y e f = none_agrees (λ n b. range_none low high e b.0.range)
 
 pub agrees_on_largest : AgreesOnLargest
 unfolding agreed_version

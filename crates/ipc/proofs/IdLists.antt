@@ -10,14 +10,13 @@ use lib.Dec.{eqb, leb}
 use lib.IntN.{ℤ, pos, negsuc}
 use lib.ListN.{length}
 use Rattle.bencode.specs.declared.fault.Fault.{Fault}
-use Rattle.bencode.specs.declared.fault.Walk.{Walk}
 use Rattle.bencode.specs.declared.integers.Number.{Number}
 use Rattle.bencode.specs.declared.profile.Profile.{Profile}
 use Rattle.octets.specs.Bytes.{byte_at, Begins}
 use Rattle.bencode.specs.Letters.{letter_l}
 use Rattle.bencode.specs.Depth.{largest_depth}
-use Rattle.bencode.specs.Fault.{fault}
-use Rattle.bencode.specs.Integers.{InRange, integer_at, within}
+use Rattle.bencode.specs.Fault.{fault, Walk}
+use Rattle.bencode.specs.Integers.{InRange, integer_at, within, number_of}
 use Rattle.bencode.specs.Loop.{LoopStep, done, after_step, repeat, item_step}
 use Rattle.bencode.specs.Scalar.{scalar_at}
 use Rattle.bencode.specs.Value.{Value, integer, string, list, dictionary, Values, no_value, value, encode, All, WellFormed}
@@ -28,8 +27,6 @@ use Rattle.bencode.proofs.Lookups.{starts, items_begin}
 use Rattle.octets.proofs.sequences.Order.{clash}
 use Rattle.bencode.proofs.walking.WalkLaws.{value_scalar, value_list}
 use Rattle.ipc.specs.declared.format.Items.{Items}
-use Rattle.ipc.specs.declared.format.OptionalEnd.{OptionalEnd}
-use Rattle.ipc.specs.declared.ids.OptionalId.{OptionalId}
 use Rattle.ipc.specs.Format.{end_by_id, end_of_id, id_end, item_end, past_item, items_end}
 use Rattle.ipc.specs.Demands.{IdList, IdListExactly}
 use Rattle.ipc.specs.Ids.{largest_id, torrent_id_of}
@@ -37,6 +34,9 @@ use Rattle.ipc.specs.Meaning.{is_id_value, every}
 use Rattle.ipc.specs.Writer.{ends_at, is_id_list}
 use Rattle.ipc.proofs.meaning.Inverts.{and_left, and_right}
 use Rattle.ipc.proofs.meaning.Means.{end_if, items_mean}
+use Rattle.ipc.specs.declared.ids.TorrentId.{TorrentId}
+use Rattle.std.specs.Prelude.{Option, Some, None, Result, Ok, Err}
+use Rattle.bencode.specs.declared.fault.Cause.{Cause}
 
 -- ---- a torrent ID is a value
 -- an integer begins with `i`
@@ -44,50 +44,50 @@ integer_first : (p : List ℕ) (at : ℕ) (z : ℤ) (end : ℕ) → SignedIntege
 integer_first p at z end (plus b w) = b
 integer_first p at z end (minus b c d w) = b
 
-integer_value_lem : (levels : ℕ) (p : List ℕ) (at : ℕ) (z : ℤ) (end : ℕ) → integer_at p at ≡ Number.Integer z end → value_at Profile.Loose levels p at ≡ Walk.End end
+integer_value_lem : (levels : ℕ) (p : List ℕ) (at : ℕ) (z : ℤ) (end : ℕ) → integer_at p at ≡ Ok (number_of z end) → value_at Profile.Loose levels p at ≡ Ok end
 unfolding scalar_at
 integer_value_lem levels p at z end e =
     let first : byte_at p at ≡ 105 = integer_first p at z end (integer_inv p at z end e) in
     sym (value_scalar Profile.Loose levels p at (λ q. omega arith) (λ q. omega arith)) ∙ rw (eq-eqb (byte_at p at) 105 first, e) refl
 
-id_value : (levels : ℕ) (p : List ℕ) (at end : ℕ) → item_end Items.Ids p at ≡ OptionalEnd.End end → value_at Profile.Loose levels p at ≡ Walk.End end
+id_value : (levels : ℕ) (p : List ℕ) (at end : ℕ) → item_end Items.Ids p at ≡ Some end → value_at Profile.Loose levels p at ≡ Ok end
 unfolding item_end id_end
 id_value levels p at end e = go (integer_at p at) refl e
   where
-    known : (z : ℤ) (k : ℕ) → integer_at p at ≡ Number.Integer z k → (id : OptionalId) → end_by_id k id ≡ OptionalEnd.End end → value_at Profile.Loose levels p at ≡ Walk.End end
-    known z k q (OptionalId.Id id) e = let i : k ≡ end = cc in integer_value_lem levels p at z k q ∙ ap (λ (n : ℕ). Walk.End n) i
-    known z k q OptionalId.None e = let n : ◌≡◌ {A = ℕ} 0 1 = cc in absurd (omega arith)
+    known : (z : ℤ) (k : ℕ) → integer_at p at ≡ Ok (number_of z k) → (id : Option TorrentId) → end_by_id k id ≡ Some end → value_at Profile.Loose levels p at ≡ Ok end
+    known z k q (Some id) e = let i : k ≡ end = cc in integer_value_lem levels p at z k q ∙ ap (λ (n : ℕ). Ok n) i
+    known z k q None e = let n : ◌≡◌ {A = ℕ} 0 1 = cc in absurd (omega arith)
 
-    go : (n : Number) → integer_at p at ≡ n → end_of_id n ≡ OptionalEnd.End end → value_at Profile.Loose levels p at ≡ Walk.End end
-    go (Number.Integer z k) q e = known z k q (torrent_id_of z) e
-    go (Number.Fault f) q e = let n : ◌≡◌ {A = ℕ} 0 1 = cc in absurd (omega arith)
+    go : (n : Result Number Fault) → integer_at p at ≡ n → end_of_id n ≡ Some end → value_at Profile.Loose levels p at ≡ Ok end
+    go (Ok n) q e = known n.value n.end q (torrent_id_of n.value) e
+    go (Err f) q e = let n : ◌≡◌ {A = ℕ} 0 1 = cc in absurd (omega arith)
 
 -- ---- a list of them is a value
-module _ (p : List ℕ) (item : ℕ → OptionalEnd) (value : ℕ → Walk) (each : (at end : ℕ) → item at ≡ OptionalEnd.End end → value at ≡ Walk.End end) (f : Fault) (end : ℕ) where
+module _ (p : List ℕ) (item : ℕ → Option ℕ) (value : ℕ → Walk) (each : (at end : ℕ) → item at ≡ Some end → value at ≡ Ok end) (f : Fault) (end : ℕ) where
   -- a step over the items, as `items_end` takes it
-  abbrev step : ℕ → Unit {0} → LoopStep (Unit {0}) OptionalEnd
-  step = item_step p (λ to x. OptionalEnd.End to) (λ to x. past_item (item to) x)
+  abbrev step : ℕ → Unit {0} → LoopStep (Unit {0}) (Option ℕ)
+  step = item_step p (λ to x. Some to) (λ to x. past_item (item to) x)
 
   -- the same steps, where each item is a value up to its end
-  steps_same : (n at : ℕ) → repeat step OptionalEnd.None n at tt ≡ OptionalEnd.End end → repeat (list_step value p) (Walk.Fault f) n at tt ≡ Walk.End end
+  steps_same : (n at : ℕ) → repeat step None n at tt ≡ Some end → repeat (list_step value p) (Err f) n at tt ≡ Ok end
   unfolding repeat
   steps_same zero at e = let z : ◌≡◌ {A = ℕ} 0 1 = cc in absurd (omega arith)
   steps_same (suc n) at e = go (eqb (byte_at p at) 101) (item at) refl e (λ to q. steps_same n to q)
     where
-      go : (t : Bool) (i : OptionalEnd) → item at ≡ i → after_step (cond t (done (OptionalEnd.End (at + 1))) (past_item i tt)) (λ to y. repeat step OptionalEnd.None n to y) ≡ OptionalEnd.End end
-          → ((to : ℕ) → repeat step OptionalEnd.None n to tt ≡ OptionalEnd.End end → repeat (list_step value p) (Walk.Fault f) n to tt ≡ Walk.End end)
-          → after_step (cond t (done (Walk.End (at + 1))) (onward (value at) tt)) (λ to y. repeat (list_step value p) (Walk.Fault f) n to y) ≡ Walk.End end
-      go true i q e rec = let k : at + 1 ≡ end = cc in ap (λ (n : ℕ). Walk.End n) k
-      go false (OptionalEnd.End k) q e rec = rw (each at k q) (rec k e)
-      go false OptionalEnd.None q e rec = let z : ◌≡◌ {A = ℕ} 0 1 = cc in absurd (omega arith)
+      go : (t : Bool) (i : Option ℕ) → item at ≡ i → after_step (cond t (done (Some (at + 1))) (past_item i tt)) (λ to y. repeat step None n to y) ≡ Some end
+          → ((to : ℕ) → repeat step None n to tt ≡ Some end → repeat (list_step value p) (Err f) n to tt ≡ Ok end)
+          → after_step (cond t (done (Ok (at + 1))) (onward (value at) tt)) (λ to y. repeat (list_step value p) (Err f) n to y) ≡ Ok end
+      go true i q e rec = let k : at + 1 ≡ end = cc in ap (λ (n : ℕ). Ok n) k
+      go false (Some k) q e rec = rw (each at k q) (rec k e)
+      go false None q e rec = let z : ◌≡◌ {A = ℕ} 0 1 = cc in absurd (omega arith)
 
-ids_value : (p : List ℕ) (end : ℕ) → byte_at p 0 ≡ letter_l → items_end Items.Ids p 1 ≡ OptionalEnd.End end → value_at Profile.Loose largest_depth p 0 ≡ Walk.End end
+ids_value : (p : List ℕ) (end : ℕ) → byte_at p 0 ≡ letter_l → items_end Items.Ids p 1 ≡ Some end → value_at Profile.Loose largest_depth p 0 ≡ Ok end
 unfolding list_from items_end
 ids_value p end b e =
     sym (value_list Profile.Loose largest_depth 15 p 0 refl b)
-    ∙ steps_same p (item_end Items.Ids p) (value_at Profile.Loose 15 p) (id_value 15 p) (fault 5 1) end (suc (length p - 1)) 1 e
+    ∙ steps_same p (item_end Items.Ids p) (value_at Profile.Loose 15 p) (id_value 15 p) (fault Cause.Syntax 1) end (suc (length p - 1)) 1 e
 
-ids_payload : (p : List ℕ) → byte_at p 0 ≡ letter_l → items_end Items.Ids p 1 ≡ OptionalEnd.End (length p) → payload_at Profile.Loose p ≡ Walk.End (length p)
+ids_payload : (p : List ℕ) → byte_at p 0 ≡ letter_l → items_end Items.Ids p 1 ≡ Some (length p) → payload_at Profile.Loose p ≡ Ok (length p)
 unfolding payload_at
 ids_payload p b e = rw (ids_value p (length p) b e, eq-eqb (length p) (length p) refl) refl
 
@@ -113,7 +113,7 @@ pub id_list_formed : (profile : Profile) (levels : ℕ) (vs : Values) → every 
 id_list_formed profile levels vs e = ids_formed profile levels vs e
 
 -- an end is one of items that pass the test
-ended : (t : Bool) (e k : ℕ) → end_if t e ≡ OptionalEnd.End k → t ≡ true
+ended : (t : Bool) (e k : ℕ) → end_if t e ≡ Some k → t ≡ true
 ended true e k q = refl
 ended false e k q = let z : ◌≡◌ {A = ℕ} 0 1 = cc in absurd (omega arith)
 
@@ -121,10 +121,10 @@ all_begins : (s x : List ℕ) → s ≡ x → Begins s 0 x (length s)
 all_begins s x e = record { rest = []; is = e ∙ sym (append-nil x); ends = omega (arith, ap length e) }
 
 -- the level that a list takes is a variable again
-each_id : (levels : ℕ) (s : List ℕ) (vs : Values) → WellFormed Profile.Loose (suc levels) (list vs) → Begins s 0 (encode (list vs)) (length s) → items_end Items.Ids s 1 ≡ OptionalEnd.End (length s) → every is_id_value vs ≡ true
+each_id : (levels : ℕ) (s : List ℕ) (vs : Values) → WellFormed Profile.Loose (suc levels) (list vs) → Begins s 0 (encode (list vs)) (length s) → items_end Items.Ids s 1 ≡ Some (length s) → every is_id_value vs ≡ true
 each_id levels s vs g b e = ended (every is_id_value vs) (length s) (length s) (sym (items_mean Profile.Loose s levels Items.Ids vs 1 (length s) g (items_begin s 0 (length s) vs b)) ∙ e)
 
-ids_encoded : (s : List ℕ) → byte_at s 0 ≡ letter_l → items_end Items.Ids s 1 ≡ OptionalEnd.End (length s) → IdList s
+ids_encoded : (s : List ℕ) → byte_at s 0 ≡ letter_l → items_end Items.Ids s 1 ≡ Some (length s) → IdList s
 ids_encoded s first e =
     let r = (accepts_exactly Profile.Loose s).0 (ids_payload s first e) in
     kinds r.0 r.1 r.2 (all_begins s (encode r.0) r.2)
@@ -136,9 +136,9 @@ ids_encoded s first e =
     kinds (dictionary es) g q b = absurd (omega (arith, starts (dictionary es) s 0 (length s) b))
 
 -- an end at an offset
-ends_there : (end : ℕ) (i : OptionalEnd) → ends_at end i ≡ true → i ≡ OptionalEnd.End end
-ends_there end (OptionalEnd.End e) q = ap (λ (k : ℕ). OptionalEnd.End k) (eqb-true e end q)
-ends_there end OptionalEnd.None q = clash false q refl
+ends_there : (end : ℕ) (i : Option ℕ) → ends_at end i ≡ true → i ≡ Some end
+ends_there end (Some e) q = ap (λ (k : ℕ). Some k) (eqb-true e end q)
+ends_there end None q = clash false q refl
 
 id_list_lem : (s : List ℕ) → is_id_list s ≡ true → IdList s
 unfolding is_id_list

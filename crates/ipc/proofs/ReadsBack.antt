@@ -25,13 +25,9 @@ use Rattle.octets.proofs.sequences.BeginsLaws.{slice_begins}
 use Rattle.octets.proofs.sequences.Order.{clash}
 use Rattle.octets.proofs.general.Table.{at}
 use Rattle.octets.specs.Ascii.{ascii}
-use Rattle.ipc.specs.declared.format.Checked.{Checked}
-use Rattle.ipc.specs.declared.ids.OptionalTag.{OptionalTag}
 use Rattle.ipc.specs.declared.keys.Class.{Class}
 use Rattle.ipc.specs.declared.reading.Value.{Value as MessageValue}
-use Rattle.ipc.specs.declared.versions.OptionalVersions.{OptionalVersions}
 use Rattle.ipc.specs.declared.writer.Given.{Given}
-use Rattle.ipc.specs.declared.writer.Written.{Written}
 use Rattle.ipc.specs.Answer.{Answer, part, accepted, accepted_handshake, content_of}
 use Rattle.ipc.specs.Reader.{read_frame_by, read_frame}
 use Rattle.ipc.specs.HandshakeWriter.{handshake_value, handshake_payload, range_written, handshake_written}
@@ -51,6 +47,11 @@ use Rattle.ipc.proofs.StrictIsLoose.{strict_is_loose}
 use Rattle.ipc.proofs.WritesBack.{Stands, text_stands, stands_in, payload_again}
 use Rattle.ipc.proofs.writing.WriterLaws.{frame_length}
 use Rattle.ipc.proofs.frames.VersionLaws.{range_is, range_made}
+use Rattle.ipc.specs.declared.versions.Versions.{Versions}
+use Rattle.std.specs.Prelude.{Option, Some, None, Ok, Err, Result}
+use Rattle.ipc.specs.declared.writer.WriteRefusal.{WriteRefusal}
+use Rattle.std.specs.Result.{result_and}
+use Rattle.bencode.specs.declared.fault.Cause.{Cause}
 
 -- ---- what a count says
 -- a payload that is written, in a frame of n bytes
@@ -58,11 +59,11 @@ record Counted (payload : List ℕ) (n : ℕ) : Type 0 where
   small : length payload ≤ largest_payload
   count : header_length + length payload ≡ n
 
-fitted_counted : (p : List ℕ) (room n : ℕ) → fitted p room ≡ Written.Count n → Counted p n
+fitted_counted : (p : List ℕ) (room n : ℕ) → fitted p room ≡ Ok n → Counted p n
 unfolding fitted
 fitted_counted p room n e = go (leb (length p) largest_payload) refl (leb (length (frame_of p)) room) e
   where
-    go : (t : Bool) → leb (length p) largest_payload ≡ t → (u : Bool) → cond t (cond u (Written.Count (length (frame_of p))) (Written.Refused 44)) (Written.Refused 43) ≡ Written.Count n → Counted p n
+    go : (t : Bool) → leb (length p) largest_payload ≡ t → (u : Bool) → cond {A = Result ℕ WriteRefusal} t (cond u (Ok (length (frame_of p))) (Err WriteRefusal.Room)) (Err WriteRefusal.Length) ≡ Ok n → Counted p n
     go true q true e = let same : length (frame_of p) ≡ n = cc in record { small = leb-true (length p) largest_payload q; count = omega (arith, frame_length p) }
     go true q false e = let z : ◌≡◌ {A = ℕ} 0 1 = cc in absurd (omega arith)
     go false q u e = let z : ◌≡◌ {A = ℕ} 0 1 = cc in absurd (omega arith)
@@ -74,12 +75,12 @@ record Passed (key : ℕ) (given : Given) (s : List ℕ) (tag n : ℕ) : Type 0 
   tagged : tag ≤ largest_tag
   counted : Counted (payload_of key given s tag) n
 
-passed : (key : ℕ) (given : Given) (s : List ℕ) (tag room n : ℕ) → write_answer key given s tag room ≡ Written.Count n → Passed key given s tag n
+passed : (key : ℕ) (given : Given) (s : List ℕ) (tag room n : ℕ) → write_answer key given s tag room ≡ Ok n → Passed key given s tag n
 unfolding write_answer message_fault
 passed key given s tag room n e = go (is_written key) refl (value_fits (class_of key) given s) refl (leb tag largest_tag) refl e
   where
     go : (t : Bool) → is_written key ≡ t → (u : Bool) → value_fits (class_of key) given s ≡ u → (v : Bool) → leb tag largest_tag ≡ v
-        → cond (eqb (cond t (cond u (cond v 0 42) 41) 40) 0) (fitted (payload_of key given s tag) room) (Written.Refused (cond t (cond u (cond v 0 42) 41) 40)) ≡ Written.Count n → Passed key given s tag n
+        → result_and (cond {A = Result (Unit {0}) WriteRefusal} t (cond u (cond v (Ok tt) (Err WriteRefusal.Tag)) (Err WriteRefusal.Value)) (Err WriteRefusal.Key)) (fitted (payload_of key given s tag) room) ≡ Ok n → Passed key given s tag n
     go true p true q true r e = record { written = p; fits = q; tagged = leb-true tag largest_tag r; counted = fitted_counted (payload_of key given s tag) room n e }
     go true p true q false r e = let z : ◌≡◌ {A = ℕ} 0 1 = cc in absurd (omega arith)
     go true p false q v r e = let z : ◌≡◌ {A = ℕ} 0 1 = cc in absurd (omega arith)
@@ -114,7 +115,7 @@ record Handed (profile : Profile) (class : Class) (given : Given) (s : List ℕ)
   held : MessageValue
   formed : WellFormed profile 15 value
   same : encode_given class given s ≡ encode value
-  judges : judged class at value ≡ Checked.Value held
+  judges : judged class at value ≡ Some held
   names : (f : List ℕ) → Stands f at value → Named class f given s (content_of held)
 
 module _ (profile : Profile) (s : List ℕ) (at : ℕ) where
@@ -130,7 +131,7 @@ module _ (profile : Profile) (s : List ℕ) (at : ℕ) where
   nothing_handed Class.Port e = clash false e refl
   nothing_handed Class.IdList e = clash false e refl
 
-  integer_judged : (class : Class) (z : ℤ) → integer_fits class z ≡ true → judged class at (integer z) ≡ Checked.Value (MessageValue.Integer z)
+  integer_judged : (class : Class) (z : ℤ) → integer_fits class z ≡ true → judged class at (integer z) ≡ Some (MessageValue.Integer z)
   integer_judged Class.Unlisted z e = clash false e refl
   integer_judged Class.Boolean z e = rw e refl
   integer_judged Class.Ignored z e = clash false e refl
@@ -232,11 +233,11 @@ message_formed profile key x zero h g = values_formed profile 15 key x g
 message_formed profile key x (suc t) h g = tagged_formed profile 15 key x (pos (suc t)) (tag_fits (suc t) h) g
 
 -- a tag that is written is one
-tag_again : (n : ℕ) → 1 ≤ n → n ≤ largest_tag → tag_of (pos n) ≡ OptionalTag.Tag (record { 0 = n })
+tag_again : (n : ℕ) → 1 ≤ n → n ≤ largest_tag → tag_of (pos n) ≡ Some (record { 0 = n })
 unfolding tag_of
 tag_again n l h = rw (le-leb 1 n l, le-leb n largest_tag h) refl
 
-message_meant : (used : ℕ) (key : List ℕ) (x : Value) (tag : ℕ) (held : MessageValue) → tag ≤ largest_tag → judged (class_of (key_number key)) (1 + length (encode_string key)) x ≡ Checked.Value held
+message_meant : (used : ℕ) (key : List ℕ) (x : Value) (tag : ℕ) (held : MessageValue) → tag ≤ largest_tag → judged (class_of (key_number key)) (1 + length (encode_string key)) x ≡ Some held
     → meaning used (message_value key x tag) ≡ accepted used (key_number key) tag (content_of held)
 message_meant used key x zero held h e = rw e refl
 message_meant used key x (suc t) held h e = rw (tag_again (suc t) (omega arith) h, e) refl
@@ -289,7 +290,7 @@ module _ (profile : Profile) (key tag n : ℕ) (given : Given) (s rest : List �
   meant : meaning n (message_value (key_text key) d.value tag) ≡ accepted n key tag (content_of d.held)
   meant =
       let k : key_number (key_text key) ≡ key = key_again key w.written in
-      let j : judged (class_of (key_number (key_text key))) (1 + length (encode_string (key_text key))) d.value ≡ Checked.Value d.held =
+      let j : judged (class_of (key_number (key_text key))) (1 + length (encode_string (key_text key))) d.value ≡ Some d.held =
       ap (λ (i : ℕ). judged (class_of i) (1 + length (encode_string (key_text key))) d.value) k ∙ d.judges in
       message_meant n (key_text key) d.value tag d.held w.tagged j ∙ ap (λ (i : ℕ). accepted n i tag (content_of d.held)) k
 
@@ -325,13 +326,13 @@ record Ranged (low high n : ℕ) : Type 0 where
   range : IsRange low high
   counted : Counted (encode (handshake_value low high)) n
 
-ranged : (low high room n : ℕ) → handshake_written low high room ≡ Written.Count n → Ranged low high n
+ranged : (low high room n : ℕ) → handshake_written low high room ≡ Ok n → Ranged low high n
 unfolding handshake_written handshake_payload
 ranged low high room n e = go (range_of (pos low) (pos high)) refl e
   where
-    go : (x : OptionalVersions) → range_of (pos low) (pos high) ≡ x → range_written (encode (handshake_value low high)) room x ≡ Written.Count n → Ranged low high n
-    go (OptionalVersions.Range v) q e = record { range = (range_made low high v q).0; counted = fitted_counted (encode (handshake_value low high)) room n e }
-    go OptionalVersions.None q e = let z : ◌≡◌ {A = ℕ} 0 1 = cc in absurd (omega arith)
+    go : (x : Option Versions) → range_of (pos low) (pos high) ≡ x → range_written (encode (handshake_value low high)) room x ≡ Ok n → Ranged low high n
+    go (Some v) q e = record { range = (range_made low high v q).0; counted = fitted_counted (encode (handshake_value low high)) room n e }
+    go None q e = let z : ◌≡◌ {A = ℕ} 0 1 = cc in absurd (omega arith)
 
 handshake_formed : (low high : ℕ) → IsRange low high → WellFormed Profile.Loose largest_depth (handshake_value low high)
 unfolding key_fault text_from is_used same ascii
@@ -355,7 +356,10 @@ handshake_reads_back low high room n rest e =
 -- its keys do not rise
 handshake_unsorted : (low high : ℕ) → WellFormed Profile.Strict largest_depth (handshake_value low high) → ⊥
 unfolding key_fault text_from is_used is_above same less ascii
-handshake_unsorted low high g = let fault : ◌≡◌ {A = ℕ} 11 0 = g.1.2.0 in omega arith
+handshake_unsorted low high g =
+    let unsorted : Some Cause.UnsortedKey ≡ None = g.1.2.0 in
+    let z : ◌≡◌ {A = ℕ} 0 1 = cc in
+    omega arith
 
 pub handshake_not_strict : HandshakeNotStrict
 unfolding handshake_payload

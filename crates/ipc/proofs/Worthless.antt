@@ -12,7 +12,6 @@ use Rattle.octets.specs.Numerals.{decimal, decimal_before}
 use Rattle.bencode.specs.Value.{encode}
 use Rattle.bencode.specs.declared.profile.Profile.{Profile}
 use Rattle.ipc.specs.declared.writer.Given.{Given}
-use Rattle.ipc.specs.declared.writer.Written.{Written}
 use Rattle.ipc.specs.Answer.{Answer, message, integer, refused, accepted, accepted_handshake}
 use Rattle.octets.specs.Ascii.{ascii}
 use Rattle.ipc.specs.Reader.{read_frame_by, read_frame}
@@ -31,6 +30,7 @@ use Rattle.ipc.proofs.writing.WriterLaws.{frame_length}
 use Rattle.ipc.proofs.ReadsBack.{front_payload, reads_back, handshake_reads_back}
 use Rattle.ipc.proofs.Tried.{frames_tried, strict_tried}
 use Rattle.ipc.proofs.WritesBack.{writes_back}
+use Rattle.std.specs.Prelude.{Ok}
 
 -- ---- two frames of the proved set: one that is accepted, and one that is not
 abbrev port_frame : List ℕ
@@ -97,7 +97,7 @@ invented_count_falls w key tag room n given s payload fits small left counted wr
     wrong (front_consumed payload [] (accepted n key tag r.0) small refl refl (ap (λ (f : List ℕ). read_frame (f ++ [])) (sym left) ∙ r.1))
 
 -- the accepted frame is written again, with the count that it was read with
-port_written : (w : Writer) → WritesBackFor w → w.answer 14 (Given.Integer (pos 65535)) [] 0 23 ≡ Written.Count 23
+port_written : (w : Writer) → WritesBackFor w → w.answer 14 (Given.Integer (pos 65535)) [] 0 23 ≡ Ok 23
 unfolding is_written class_of listed
 port_written w back = (back port_frame port_answer 23 port_read refl refl refl (λ e. let z : ◌≡◌ {A = ℕ} 0 1 = cc in omega arith) (omega arith)).0
 
@@ -111,7 +111,7 @@ one_more_falls reads =
     let theirs = reads 14 0 23 24 (Given.Integer (pos 65535)) [] [] fits (ap one_more (port_written writer writes_back)) in
     omega (arith, ap (λ (x : Answer). x.consumed) (sym ours.1 ∙ theirs.1))
 
-handshake_counted : handshake_written 1 2 37 ≡ Written.Count 37
+handshake_counted : handshake_written 1 2 37 ≡ Ok 37
 unfolding handshake_written range_of fitted handshake_payload encode decimal decimal_before ascii frame_of hex_header hex_in
 handshake_counted = refl
 

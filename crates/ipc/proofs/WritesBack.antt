@@ -18,11 +18,9 @@ use Rattle.octets.proofs.sequences.BeginsLaws.{slice_begins}
 use Rattle.bencode.proofs.Lookups.{reads_string}
 use Rattle.octets.proofs.sequences.Order.{clash}
 use Rattle.bencode.specs.Integers.{within}
-use Rattle.ipc.specs.declared.format.Checked.{Checked}
 use Rattle.ipc.specs.declared.keys.Class.{Class}
 use Rattle.ipc.specs.declared.reading.Value.{Value as MessageValue}
 use Rattle.ipc.specs.declared.writer.Given.{Given}
-use Rattle.ipc.specs.declared.writer.Written.{Written}
 use Rattle.ipc.specs.Answer.{Answer, Content, accepted, content_of}
 use Rattle.ipc.specs.Format.{largest_port}
 use Rattle.ipc.specs.Header.{header_length, largest_payload}
@@ -37,6 +35,7 @@ use Rattle.ipc.proofs.headers.HexLaws.{header_from}
 use Rattle.ipc.proofs.writing.WriterLaws.{fitted_count}
 use Rattle.ipc.proofs.meaning.Inverts.{key_named, written_listed, spelling, Meant, inverts}
 use Rattle.ipc.proofs.IdLists.{id_list_exactly}
+use Rattle.std.specs.Prelude.{Some, None, Ok}
 
 -- ---- keys that are written have no format of a list but that of torrent IDs
 abbrev allowed : Class → Bool
@@ -77,26 +76,26 @@ written_allowed (suc k) w = go (get_or listed k unlisted) w (row_allows listed k
     go x w e = rw w at e
 
 -- ---- values that are in a format
-as_integer_lem : (ok : ℤ → Bool) (x : Value) (h : MessageValue) → as_integer ok x ≡ Checked.Value h → (z : ℤ) × (x ≡ integer z) × (ok z ≡ true) × (h ≡ MessageValue.Integer z)
+as_integer_lem : (ok : ℤ → Bool) (x : Value) (h : MessageValue) → as_integer ok x ≡ Some h → (z : ℤ) × (x ≡ integer z) × (ok z ≡ true) × (h ≡ MessageValue.Integer z)
 as_integer_lem ok (integer z) h e = go (ok z) refl e
   where
-    go : (t : Bool) → ok z ≡ t → cond t (Checked.Value (MessageValue.Integer z)) Checked.Off ≡ Checked.Value h → (y : ℤ) × (integer z ≡ integer y) × (ok y ≡ true) × (h ≡ MessageValue.Integer y)
+    go : (t : Bool) → ok z ≡ t → cond t (Some (MessageValue.Integer z)) None ≡ Some h → (y : ℤ) × (integer z ≡ integer y) × (ok y ≡ true) × (h ≡ MessageValue.Integer y)
     go true q e = (z, refl, q, (cc))
     go false q e = let n : ◌≡◌ {A = ℕ} 0 1 = cc in absurd (omega arith)
 as_integer_lem ok (string text) h e = let n : ◌≡◌ {A = ℕ} 0 1 = cc in absurd (omega arith)
 as_integer_lem ok (list vs) h e = let n : ◌≡◌ {A = ℕ} 0 1 = cc in absurd (omega arith)
 as_integer_lem ok (dictionary es) h e = let n : ◌≡◌ {A = ℕ} 0 1 = cc in absurd (omega arith)
 
-as_text_lem : (at : ℕ) (x : Value) (h : MessageValue) → as_text at x ≡ Checked.Value h → (text : List ℕ) × (x ≡ string text) × (h ≡ MessageValue.Text (header_length + ((at + length (encode_string text)) - length text)) (length text))
+as_text_lem : (at : ℕ) (x : Value) (h : MessageValue) → as_text at x ≡ Some h → (text : List ℕ) × (x ≡ string text) × (h ≡ MessageValue.Text (header_length + ((at + length (encode_string text)) - length text)) (length text))
 as_text_lem at (string text) h e = (text, refl, (cc))
 as_text_lem at (integer z) h e = let n : ◌≡◌ {A = ℕ} 0 1 = cc in absurd (omega arith)
 as_text_lem at (list vs) h e = let n : ◌≡◌ {A = ℕ} 0 1 = cc in absurd (omega arith)
 as_text_lem at (dictionary es) h e = let n : ◌≡◌ {A = ℕ} 0 1 = cc in absurd (omega arith)
 
-as_list_lem : (ok : Value → Bool) (at : ℕ) (x : Value) (h : MessageValue) → as_list ok at x ≡ Checked.Value h → (vs : Values) × (x ≡ list vs) × (every ok vs ≡ true) × (h ≡ whole_at at (list vs))
+as_list_lem : (ok : Value → Bool) (at : ℕ) (x : Value) (h : MessageValue) → as_list ok at x ≡ Some h → (vs : Values) × (x ≡ list vs) × (every ok vs ≡ true) × (h ≡ whole_at at (list vs))
 as_list_lem ok at (list vs) h e = go (every ok vs) refl e
   where
-    go : (t : Bool) → every ok vs ≡ t → cond t (Checked.Value (whole_at at (list vs))) Checked.Off ≡ Checked.Value h → (us : Values) × (list vs ≡ list us) × (every ok us ≡ true) × (h ≡ whole_at at (list us))
+    go : (t : Bool) → every ok vs ≡ t → cond t (Some (whole_at at (list vs))) None ≡ Some h → (us : Values) × (list vs ≡ list us) × (every ok us ≡ true) × (h ≡ whole_at at (list us))
     go true q e = (vs, refl, q, (cc))
     go false q e = let n : ◌≡◌ {A = ℕ} 0 1 = cc in absurd (omega arith)
 as_list_lem ok at (integer z) h e = let n : ◌≡◌ {A = ℕ} 0 1 = cc in absurd (omega arith)
@@ -141,7 +140,7 @@ module _ (f : List ℕ) (at : ℕ) (x : Value) (h : MessageValue) where
       let s : bytes_of f (content_of (whole_at at (list vs))) ≡ encode (list vs) = slice_begins f (header_length + at) (header_length + at + length (encode (list vs))) (encode (list vs)) c in
       rw (p, q) (record { fits = (id_list_exactly (bytes_of f (content_of (whole_at at (list vs))))).1 (record { ids = vs; each = ids; is = s }); same = s })
 
-  value_again : (class : Class) → allowed class ≡ true → (class ≡ Class.Ignored → ⊥) → Stands f at x → judged class at x ≡ Checked.Value h → Again f class x (content_of h)
+  value_again : (class : Class) → allowed class ≡ true → (class ≡ Class.Ignored → ⊥) → Stands f at x → judged class at x ≡ Some h → Again f class x (content_of h)
   value_again Class.Unlisted w i b e = clash false w refl
   value_again Class.Boolean w i b e = let r = as_integer_lem (within 0 1) x h e in integer_again Class.Boolean r.0 r.2 r.1 r.3
   value_again Class.Ignored w i b e = absurd (i refl)
@@ -172,7 +171,7 @@ unfolding payload_of flatten
 payload_again k given s tag key x p q = rw (p, q) refl
 
 written_count_lem : (k : ℕ) (given : Given) (s : List ℕ) (tag room : ℕ) (p : List ℕ) → is_written k ≡ true → value_fits (class_of k) given s ≡ true → tag ≤ largest_tag → payload_of k given s tag ≡ p
-    → length p ≤ largest_payload → header_length + length p ≤ room → write_answer k given s tag room ≡ Written.Count (header_length + length p)
+    → length p ≤ largest_payload → header_length + length p ≤ room → write_answer k given s tag room ≡ Ok (header_length + length p)
 unfolding write_answer message_fault
 written_count_lem k given s tag room p w v t e small fits = rw (w, v, le-leb tag largest_tag t, e) (fitted_count p room small fits)
 
@@ -191,7 +190,7 @@ frame_again f header p rest is eight hex number =
 -- ---- the statement
 -- a frame is written again, for its answer
 abbrev Back : List ℕ → ℕ → Answer → Type 0
-Back f room a = (write_answer a.key (given_of a.value) (bytes_of f a.value) a.tag room ≡ Written.Count a.consumed)
+Back f room a = (write_answer a.key (given_of a.value) (bytes_of f a.value) a.tag room ≡ Ok a.consumed)
     × (frame_of (payload_of a.key (given_of a.value) (bytes_of f a.value) a.tag) ≡ upper_header (take a.consumed f))
 
 module _ (f : List ℕ) (a : Answer) (room : ℕ) (framed : Framed f a) (m : Meant framed.payload (header_length + length (encode framed.payload)) a) where

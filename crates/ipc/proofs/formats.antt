@@ -1,3 +1,4 @@
+pub mod IdLaws
 pub mod FormatLaws
 pub mod CheckLaws
 pub mod ListingLaws

@@ -1,9 +1,11 @@
 -- To be believed. The reader's answer, as document 01 has it ('What the reader says').
 -- Assumes nothing.
-use Rattle.std.specs.Prelude.{ℕ, ℤ}
-use Rattle.ipc.specs.declared.ids.OptionalTag.{OptionalTag}
+use Rattle.std.specs.Prelude.{ℕ, ℤ, Option, Some, None, Result, Ok, Err}
+use Rattle.ipc.specs.declared.ids.Tag.{Tag}
 use Rattle.ipc.specs.declared.reading.Value.{Value}
-use Rattle.ipc.specs.declared.reading.Reading.{Reading}
+use Rattle.ipc.specs.declared.reading.Frame.{Frame}
+use Rattle.ipc.specs.declared.reading.Refusal.{Refusal}
+use Rattle.bencode.specs.Fault.{cause_code}
 
 -- what is read: nothing, a message or a handshake
 pub data Kind : Type 0 where
@@ -46,9 +48,9 @@ abbrev pub off_format : ℕ → ℕ → Answer
 off_format k t = record { code = 22; offset = 0; consumed = 0; kind = message; key = k; tag = t; value = nothing }
 
 -- the number of a tag, and 0 for none
-abbrev pub tag_number : OptionalTag → ℕ
-tag_number (OptionalTag.Tag t) = t.0
-tag_number OptionalTag.None = 0
+abbrev pub tag_number : Option Tag → ℕ
+tag_number (Some t) = t.0
+tag_number None = 0
 
 -- the content of a message's value
 abbrev pub content_of : Value → Content
@@ -57,15 +59,27 @@ content_of (Value.Integer z) = integer z
 content_of (Value.Text at n) = text at n
 content_of (Value.Part at n) = part at n
 
--- document 01's answer for each case of the reader's enum
-abbrev pub answer_of : Reading → Answer
-answer_of (Reading.Message m used) = accepted used m.key (tag_number m.tag) (content_of m.value)
-answer_of (Reading.Handshake v used) = accepted_handshake used v.min v.max
-answer_of Reading.Incomplete = refused 1 0
-answer_of (Reading.NoDigit at) = refused 2 at
-answer_of Reading.OverProtocol = refused 3 0
-answer_of Reading.OverLimit = refused 4 0
-answer_of (Reading.Payload f) = refused f.code f.offset
-answer_of Reading.NoMessage = refused 20 0
-answer_of Reading.NoHandshake = refused 21 0
-answer_of (Reading.OffFormat k t) = off_format k (tag_number t)
+-- document 01's answer for each refusal
+abbrev pub refusal_answer : Refusal → Answer
+refusal_answer Refusal.Incomplete = refused 1 0
+refusal_answer (Refusal.NoDigit at) = refused 2 at
+refusal_answer Refusal.OverProtocol = refused 3 0
+refusal_answer Refusal.OverLimit = refused 4 0
+refusal_answer (Refusal.Payload f) = refused (cause_code f.cause) f.offset
+refusal_answer Refusal.NoMessage = refused 20 0
+refusal_answer Refusal.NoHandshake = refused 21 0
+refusal_answer (Refusal.OffFormat k t) = off_format k (tag_number t)
+
+-- its code
+abbrev pub refusal_code : Refusal → ℕ
+refusal_code r = (refusal_answer r).code
+
+-- the answer to a frame that is accepted
+abbrev pub frame_answer : Frame → Answer
+frame_answer (Frame.Message m used) = accepted used m.key (tag_number m.tag) (content_of m.value)
+frame_answer (Frame.Handshake v used) = accepted_handshake used v.min v.max
+
+-- document 01's answer for each case of what the reader answers
+abbrev pub answer_of : Result Frame Refusal → Answer
+answer_of (Ok f) = frame_answer f
+answer_of (Err r) = refusal_answer r

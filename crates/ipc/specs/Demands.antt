@@ -1,9 +1,8 @@
 -- Statements of frames as a whole. Each is a type; its proof stands in proofs/ under the same name in lower case. A name with
 -- For is the statement over any build, so that a wrong one can be refuted by it (Worthless).
 -- Assumes nothing.
-use Rattle.std.specs.Prelude.{ℕ, ◌+◌, ◌*◌, ◌≤◌, ◌<◌, ◌≡◌, ◌↔◌, ◌⊎◌, true, List, [], ◌∷◌, ◌++◌, length, take}
+use Rattle.std.specs.Prelude.{ℕ, ◌+◌, ◌*◌, ◌≤◌, ◌<◌, ◌≡◌, ◌↔◌, ◌⊎◌, true, List, [], ◌∷◌, ◌++◌, length, take, Ok, Result, Err}
 use Rattle.bencode.specs.declared.fault.Fault.{Fault}
-use Rattle.bencode.specs.declared.fault.Walk.{Walk}
 use Rattle.bencode.specs.declared.profile.Profile.{Profile}
 use Rattle.octets.specs.Bytes.{slice}
 use Rattle.bencode.specs.Depth.{largest_depth}
@@ -12,9 +11,7 @@ use Rattle.bencode.specs.Value.{Value, list, Values, encode, WellFormed}
 use Rattle.bencode.specs.Walk.{payload_at}
 use Rattle.ipc.specs.declared.keys.Class.{Class}
 use Rattle.ipc.specs.declared.writer.Given.{Given}
-use Rattle.ipc.specs.declared.writer.Written.{Written}
 use Rattle.ipc.specs.Answer.{Answer, Content, nothing, integer, text, part, versions, message, refused, accepted, accepted_handshake}
-use Rattle.ipc.specs.declared.header.Header.{Header}
 use Rattle.ipc.specs.Header.{header_length, largest_payload, protocol_payload, hex_value, read_header, header_code, header_offset, length_code}
 use Rattle.ipc.specs.Reader.{read_frame_by, read_frame}
 use Rattle.ipc.specs.Hex.{upper_header}
@@ -22,6 +19,8 @@ use Rattle.ipc.specs.Keys.{class_of, is_written}
 use Rattle.ipc.specs.Meaning.{is_id_value, every, meaning}
 use Rattle.ipc.specs.Writer.{written_code, written_count, is_id_list, payload_of, frame_of, write_answer, Leaves}
 use Rattle.ipc.specs.HandshakeWriter.{handshake_payload, handshake_written}
+use Rattle.ipc.specs.declared.writer.WriteRefusal.{WriteRefusal}
+use Rattle.bencode.specs.Fault.{cause_code}
 
 -- bytes that are hex digits of either case
 pub data HexDigits : List ℕ → Type 0 where
@@ -101,7 +100,7 @@ pub data AnswerRowBy (profile : Profile) (s : List ℕ) : Answer → Type 0 wher
   over_limit : (n : ℕ) (after : List ℕ) → Headed s n after → largest_payload < n → n ≤ protocol_payload → AnswerRowBy profile s (refused 4 0)
   -- 5 to 10, and 11 in the strict profile: a fault of the payload
   payload_fault : (payload after : List ℕ) (f : Fault) → Headed s (length payload) (payload ++ after) → length payload ≤ largest_payload
-      → payload_at profile payload ≡ Walk.Fault f → AnswerRowBy profile s (refused f.code f.offset)
+      → payload_at profile payload ≡ Err f → AnswerRowBy profile s (refused (cause_code f.cause) f.offset)
 
 -- in the loose profile, the default
 abbrev pub AnswerRow : List ℕ → Answer → Type 0
@@ -125,9 +124,9 @@ StrictIsLoose = (s : List ℕ) → ((read_frame_by Profile.Strict s).code ≡ 11
 -- a fault of the header, or of the length that it says, is the reader's answer, and where it has none it says a length
 pub record HeaderAnswered (s : List ℕ) : Type 0 where
   pub fault : (header_code (read_header s) ≡ 0 → ⊥) → read_frame s ≡ refused (header_code (read_header s)) (header_offset (read_header s))
-  pub says : (header_code (read_header s) ≡ 0) ↔ ((n : ℕ) × (read_header s ≡ Header.Length n))
+  pub says : (header_code (read_header s) ≡ 0) ↔ ((n : ℕ) × (read_header s ≡ Ok n))
   pub place : header_code (read_header s) ≡ 0 → header_offset (read_header s) ≡ 0
-  pub long : (n : ℕ) → read_header s ≡ Header.Length n → (length_code n ≡ 0 → ⊥) → read_frame s ≡ refused (length_code n) 0
+  pub long : (n : ℕ) → read_header s ≡ Ok n → (length_code n ≡ 0 → ⊥) → read_frame s ≡ refused (length_code n) 0
 
 -- a length is taken exactly where it is within the limit
 abbrev pub HeadersAnswered : Type 0
@@ -170,11 +169,11 @@ Named class frame Given.Bytes s c = (at : ℕ) × (c ≡ bytes_named class at (l
 
 -- demand 1: a refusal has count 0 and leaves the lent buffer as it was
 abbrev pub RefusalKeeps : Type 0
-RefusalKeeps = (answer r : Written) (payload before after : List ℕ) → Leaves answer payload before r after → (written_code r ≡ 0 → ⊥) → (written_count r ≡ 0) × (after ≡ before)
+RefusalKeeps = (answer r : Result ℕ WriteRefusal) (payload before after : List ℕ) → Leaves answer payload before r after → (written_code r ≡ 0 → ⊥) → (written_count r ≡ 0) × (after ≡ before)
 
 -- a writer: what it answers to a key, a value, the bytes beside it and a tag, in a room, and the frame that it leaves
 pub record Writer : Type 0 where
-  pub answer : ℕ → Given → List ℕ → ℕ → ℕ → Written
+  pub answer : ℕ → Given → List ℕ → ℕ → ℕ → Result ℕ WriteRefusal
   pub frame : ℕ → Given → List ℕ → ℕ → List ℕ
 
 -- ours
@@ -183,7 +182,7 @@ writer = record { answer = write_answer; frame = λ key given s tag. frame_of (p
 
 -- demand 2: each frame written reads back as its record, whatever follows it
 abbrev pub ReadsBackFor : Writer → Type 0
-ReadsBackFor w = (key tag room n : ℕ) (given : Given) (s rest : List ℕ) → GivenFits given → w.answer key given s tag room ≡ Written.Count n
+ReadsBackFor w = (key tag room n : ℕ) (given : Given) (s rest : List ℕ) → GivenFits given → w.answer key given s tag room ≡ Ok n
     → (c : Content) × (read_frame (w.frame key given s tag ++ rest) ≡ accepted n key tag c) × Named (class_of key) (w.frame key given s tag) given s c
 
 abbrev pub ReadsBack : Type 0
@@ -191,18 +190,18 @@ ReadsBack = ReadsBackFor writer
 
 -- the same in every profile, of messages; of handshakes see `HandshakeNotStrict`
 abbrev pub ReadsBackBy : Type 0
-ReadsBackBy = (profile : Profile) (key tag room n : ℕ) (given : Given) (s rest : List ℕ) → GivenFits given → writer.answer key given s tag room ≡ Written.Count n
+ReadsBackBy = (profile : Profile) (key tag room n : ℕ) (given : Given) (s rest : List ℕ) → GivenFits given → writer.answer key given s tag room ≡ Ok n
     → (c : Content) × (read_frame_by profile (writer.frame key given s tag ++ rest) ≡ accepted n key tag c) × Named (class_of key) (writer.frame key given s tag) given s c
 
 -- the same of the buffer that was lent
 abbrev pub BufferReadsBack : Type 0
 BufferReadsBack = (key tag n : ℕ) (given : Given) (s before after : List ℕ) → GivenFits given
-    → Leaves (write_answer key given s tag (length before)) (payload_of key given s tag) before (Written.Count n) after
+    → Leaves (write_answer key given s tag (length before)) (payload_of key given s tag) before (Ok n) after
     → (c : Content) × (read_frame after ≡ accepted n key tag c) × Named (class_of key) (frame_of (payload_of key given s tag)) given s c
 
 -- a writer of handshakes: what it answers to a range in a room, and the frame that it leaves
 pub record HandshakeWriter : Type 0 where
-  pub answer : ℕ → ℕ → ℕ → Written
+  pub answer : ℕ → ℕ → ℕ → Result ℕ WriteRefusal
   pub frame : ℕ → ℕ → List ℕ
 
 -- ours
@@ -211,14 +210,14 @@ handshake_writer = record { answer = handshake_written; frame = λ low high. fra
 
 -- each handshake written reads back as its range
 abbrev pub HandshakeReadsBackFor : HandshakeWriter → Type 0
-HandshakeReadsBackFor w = (low high room n : ℕ) (rest : List ℕ) → w.answer low high room ≡ Written.Count n → read_frame (w.frame low high ++ rest) ≡ accepted_handshake n low high
+HandshakeReadsBackFor w = (low high room n : ℕ) (rest : List ℕ) → w.answer low high room ≡ Ok n → read_frame (w.frame low high ++ rest) ≡ accepted_handshake n low high
 
 abbrev pub HandshakeReadsBack : Type 0
 HandshakeReadsBack = HandshakeReadsBackFor handshake_writer
 
 -- the strict reader refuses each of them by 11: `min` is written before `max`
 abbrev pub HandshakeNotStrict : Type 0
-HandshakeNotStrict = (low high room n : ℕ) (rest : List ℕ) → handshake_writer.answer low high room ≡ Written.Count n → (read_frame_by Profile.Strict (handshake_writer.frame low high ++ rest)).code ≡ 11
+HandshakeNotStrict = (low high room n : ℕ) (rest : List ℕ) → handshake_writer.answer low high room ≡ Ok n → (read_frame_by Profile.Strict (handshake_writer.frame low high ++ rest)).code ≡ 11
 
 -- the value to hand in for what a reader named, and the bytes of it
 abbrev pub given_of : Content → Given
@@ -239,7 +238,7 @@ bytes_of f (versions low high) = []
 -- same bytes but for the case of hex letters
 abbrev pub WritesBackFor : Writer → Type 0
 WritesBackFor w = (f : List ℕ) (a : Answer) (room : ℕ) → read_frame f ≡ a → a.code ≡ 0 → a.kind ≡ message → is_written a.key ≡ true → (class_of a.key ≡ Class.Ignored → ⊥) → a.consumed ≤ room
-    → (w.answer a.key (given_of a.value) (bytes_of f a.value) a.tag room ≡ Written.Count a.consumed)
+    → (w.answer a.key (given_of a.value) (bytes_of f a.value) a.tag room ≡ Ok a.consumed)
     × (w.frame a.key (given_of a.value) (bytes_of f a.value) a.tag ≡ upper_header (take a.consumed f))
 
 abbrev pub WritesBack : Type 0

@@ -2,9 +2,10 @@
 -- `length_code` by `HeadersAnswered`. The header of a frame: 8 hex digits of either case for the payload's length (document 01,
 -- 'The frame').
 -- Assumes nothing.
-use Rattle.std.specs.Prelude.{true, false, cond, List, [], ◌∷◌, ℕ, zero, suc, ◌+◌, ◌*◌, ◌-◌, ltb}
-use Rattle.ipc.specs.declared.header.Header.{Header}
-use Rattle.ipc.specs.declared.header.Sized.{Sized}
+use Rattle.std.specs.Prelude.{true, false, cond, List, [], ◌∷◌, ℕ, zero, suc, ◌+◌, ◌*◌, ◌-◌, ltb, Result, Ok, Err}
+use Rattle.ipc.specs.declared.header.PayloadLength.{PayloadLength}
+use Rattle.ipc.specs.declared.reading.Refusal.{Refusal}
+use Rattle.ipc.specs.Answer.{refusal_answer, refusal_code}
 
 -- how many bytes a header has
 abbrev pub header_length : ℕ
@@ -28,35 +29,32 @@ hex_value c =
 
 -- what reading k hex digits finds, at an offset and after those of v: the number, the offset of the first byte that is none,
 -- or too few bytes
-unfoldable pub header_in : ℕ → ℕ → ℕ → List ℕ → Header
-header_in zero i v s = Header.Length v
-header_in (suc k) i v [] = Header.Short
-header_in (suc k) i v (c ∷ cs) = elim (ltb (hex_value c) 16) [ true ↦ header_in k (i + 1) (16 * v + hex_value c) cs | false ↦ Header.NoDigit i ]
+unfoldable pub header_in : ℕ → ℕ → ℕ → List ℕ → Result ℕ Refusal
+header_in zero i v s = Ok v
+header_in (suc k) i v [] = Err Refusal.Incomplete
+header_in (suc k) i v (c ∷ cs) = elim (ltb (hex_value c) 16) [ true ↦ header_in k (i + 1) (16 * v + hex_value c) cs | false ↦ Err (Refusal.NoDigit i) ]
 
 -- what reading a header at the front of bytes finds
-unfoldable pub read_header : List ℕ → Header
+unfoldable pub read_header : List ℕ → Result ℕ Refusal
 read_header s = header_in header_length 0 0 s
 
 -- document 01's code and offset for what reading a header finds; 0 and 0 for a length
-abbrev pub header_code : Header → ℕ
-header_code (Header.Length n) = 0
-header_code Header.Short = 1
-header_code (Header.NoDigit at) = 2
+abbrev pub header_code : Result ℕ Refusal → ℕ
+header_code (Ok n) = 0
+header_code (Err r) = refusal_code r
 
-abbrev pub header_offset : Header → ℕ
-header_offset (Header.Length n) = 0
-header_offset Header.Short = 0
-header_offset (Header.NoDigit at) = at
+abbrev pub header_offset : Result ℕ Refusal → ℕ
+header_offset (Ok n) = 0
+header_offset (Err r) = (refusal_answer r).offset
 
 -- a payload's length against the protocol's limit and this library's
-unfoldable pub sized : ℕ → Sized
-sized n = cond (ltb protocol_payload n) Sized.OverProtocol (cond (ltb largest_payload n) Sized.OverLimit (Sized.Length (record { 0 = n })))
+unfoldable pub sized : ℕ → Result PayloadLength Refusal
+sized n = cond (ltb protocol_payload n) (Err Refusal.OverProtocol) (cond (ltb largest_payload n) (Err Refusal.OverLimit) (Ok (record { 0 = n })))
 
 -- document 01's code for it: 3 over the protocol's limit, 4 over this library's, and 0 for neither
-abbrev pub size_code : Sized → ℕ
-size_code (Sized.Length n) = 0
-size_code Sized.OverProtocol = 3
-size_code Sized.OverLimit = 4
+abbrev pub size_code : Result PayloadLength Refusal → ℕ
+size_code (Ok n) = 0
+size_code (Err r) = refusal_code r
 
 abbrev pub length_code : ℕ → ℕ
 length_code n = cond (ltb protocol_payload n) 3 (cond (ltb largest_payload n) 4 0)

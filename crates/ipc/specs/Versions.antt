@@ -1,32 +1,33 @@
 -- Ranges are to be believed; the agreed version is pinned by `AgreesOnLargest`. Ranges of versions (document 01, 'The message').
 -- Assumes nothing.
-use Rattle.std.specs.Prelude.{ℕ, ◌≤◌, min, max, ◌≡◌, ◌↔◌, cond, ◌&&◌, leb, ℤ, pos, nat_abs}
+use Rattle.std.specs.Prelude.{ℕ, ◌≤◌, min, max, ◌≡◌, ◌↔◌, cond, ◌&&◌, leb, ℤ, pos, nat_abs, Option, Some, None}
+use Rattle.std.specs.Option.{unwrap_or}
 use Rattle.std.specs.Int.Signed.{le_z}
 use Rattle.ipc.specs.declared.versions.Versions.{Versions}
-use Rattle.ipc.specs.declared.versions.OptionalVersions.{OptionalVersions}
 
 abbrev pub largest_version : ℕ
 largest_version = 2147483647
 
 -- the versions from one number to another: 1 ≤ low ≤ high ≤ the largest
-unfoldable pub range_of : ℤ → ℤ → OptionalVersions
+unfoldable pub range_of : ℤ → ℤ → Option Versions
 range_of low high =
     cond (le_z (pos 1) low && (le_z low high && le_z high (pos largest_version)))
-    (OptionalVersions.Range (record { min = nat_abs low; max = nat_abs high }))
-    OptionalVersions.None
+    (Some (record { min = nat_abs low; max = nat_abs high }))
+    None
 
--- the largest number in two ranges, and 0 where there is none
-abbrev pub largest_common : Versions → Versions → ℕ
-largest_common v w = cond (leb (max v.min w.min) (min v.max w.max)) (min v.max w.max) 0
+-- the largest number in two ranges, or none
+abbrev pub largest_common : Versions → Versions → Option ℕ
+largest_common v w = cond (leb (max v.min w.min) (min v.max w.max)) (Some (min v.max w.max)) None
 
-abbrev pub agreed : OptionalVersions → OptionalVersions → ℕ
-agreed (OptionalVersions.Range v) (OptionalVersions.Range w) = largest_common v w
-agreed (OptionalVersions.Range v) OptionalVersions.None = 0
-agreed OptionalVersions.None x = 0
+-- the same, and none where either is no range
+abbrev pub agreed : Option Versions → Option Versions → Option ℕ
+agreed (Some v) (Some w) = largest_common v w
+agreed (Some v) None = None
+agreed None x = None
 
 -- the agreed version: 0 if there is none or if either is no range
 unfoldable pub agreed_version : ℕ → ℕ → ℕ → ℕ → ℕ
-agreed_version low high low2 high2 = agreed (range_of (pos low) (pos high)) (range_of (pos low2) (pos high2))
+agreed_version low high low2 high2 = unwrap_or (agreed (range_of (pos low) (pos high)) (range_of (pos low2) (pos high2))) 0
 
 -- ---- the statement
 -- there is a range from one number to another

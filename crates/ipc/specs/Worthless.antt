@@ -1,15 +1,15 @@
 -- Statements: worthless builds fall by the demands themselves (document 01, 'What each result must determine').
 -- Assumes nothing.
-use Rattle.std.specs.Prelude.{ℕ, ◌+◌, ◌≤◌, ◌≡◌, List, length}
+use Rattle.std.specs.Prelude.{ℕ, ◌+◌, ◌≤◌, ◌≡◌, List, length, Result, Ok, Err}
 use Rattle.bencode.specs.declared.profile.Profile.{Profile}
 use Rattle.ipc.specs.declared.writer.Given.{Given}
-use Rattle.ipc.specs.declared.writer.Written.{Written}
 use Rattle.ipc.specs.Answer.{Answer}
 use Rattle.ipc.specs.Header.{largest_payload}
 use Rattle.ipc.specs.Reader.{read_frame}
 use Rattle.ipc.specs.Writer.{frame_of}
 use Rattle.ipc.specs.HandshakeWriter.{handshake_written}
 use Rattle.ipc.specs.Demands.{AcceptsExactlyFor, AcceptsExactlyByFor, AnswersByRowFor, GivenFits, Writer, writer, ReadsBackFor, handshake_writer, HandshakeReadsBackFor, WritesBackFor}
+use Rattle.ipc.specs.declared.writer.WriteRefusal.{WriteRefusal}
 
 -- a reader that refuses always, with whatever numbers, falls by demand 1, and by demand 2
 abbrev pub RefusingReaderFalls : Type 0
@@ -26,12 +26,12 @@ LooseReaderFalls = (read : Profile → List ℕ → Answer) → ((s : List ℕ) 
 -- a writer that leaves a frame and counts another number of bytes than it has, be it for one message only, falls by demand 2
 abbrev pub InventedCountFalls : Type 0
 InventedCountFalls = (w : Writer) (key tag room n : ℕ) (given : Given) (s payload : List ℕ) → GivenFits given → length payload ≤ largest_payload
-    → w.frame key given s tag ≡ frame_of payload → w.answer key given s tag room ≡ Written.Count n → (n ≡ length (frame_of payload) → ⊥) → ReadsBackFor w → ⊥
+    → w.frame key given s tag ≡ frame_of payload → w.answer key given s tag room ≡ Ok n → (n ≡ length (frame_of payload) → ⊥) → ReadsBackFor w → ⊥
 
 -- an answer with one byte more in its count
-abbrev pub one_more : Written → Written
-one_more (Written.Count n) = Written.Count (n + 1)
-one_more (Written.Refused c) = Written.Refused c
+abbrev pub one_more : Result ℕ WriteRefusal → Result ℕ WriteRefusal
+one_more (Ok n) = Ok (n + 1)
+one_more (Err c) = Err c
 
 -- so do our writers with one byte more in each count
 abbrev pub OneMoreFalls : Type 0
@@ -43,4 +43,4 @@ HandshakeOneMoreFalls =
 
 -- a writer that refuses always falls by demand 2: what is read is not written again
 abbrev pub RefusingWriterFalls : Type 0
-RefusingWriterFalls = (w : Writer) → ((key tag room n : ℕ) (given : Given) (s : List ℕ) → w.answer key given s tag room ≡ Written.Count n → ⊥) → WritesBackFor w → ⊥
+RefusingWriterFalls = (w : Writer) → ((key tag room n : ℕ) (given : Given) (s : List ℕ) → w.answer key given s tag room ≡ Ok n → ⊥) → WritesBackFor w → ⊥

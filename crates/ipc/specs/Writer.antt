@@ -2,7 +2,8 @@
 -- and `WritesBack` (upper case: see Hex), a refused buffer by `RefusalKeeps`, `is_id_list` by `IdListExactly`. The writer of
 -- messages (document 01, 'What the writer says').
 -- Assumes nothing.
-use Rattle.std.specs.Prelude.{ℕ, ◌+◌, ◌≡◌, Bool, true, false, cond, ◌&&◌, eqb, leb, ℤ, pos, length}
+use Rattle.std.specs.Prelude.{ℕ, ◌+◌, ◌≡◌, Bool, true, false, cond, ◌&&◌, eqb, leb, ℤ, pos, length, Option, Some, None, Result, Ok, Err}
+use Rattle.std.specs.Result.{result_and}
 use mathlib.Core.List.{List, [], ◌∷◌, ◌++◌, flatten}
 use Rattle.octets.specs.Bytes.{byte_at}
 use Rattle.octets.specs.Put.{at_front}
@@ -10,35 +11,41 @@ use Rattle.bencode.specs.Letters.{letter_e, letter_l}
 use Rattle.bencode.specs.Value.{integer, encode_string, encode}
 use Rattle.bencode.specs.Integers.{within}
 use Rattle.ipc.specs.declared.format.Items.{Items}
-use Rattle.ipc.specs.declared.format.OptionalEnd.{OptionalEnd}
 use Rattle.ipc.specs.declared.keys.Class.{Class}
 use Rattle.ipc.specs.declared.writer.Given.{Given}
-use Rattle.ipc.specs.declared.writer.Written.{Written}
 use Rattle.ipc.specs.Header.{header_length, largest_payload}
 use Rattle.ipc.specs.Hex.{hex_header}
 use Rattle.ipc.specs.Ids.{largest_tag}
 use Rattle.ipc.specs.Keys.{key_text, class_of, is_written}
 use Rattle.ipc.specs.Format.{largest_port, items_end}
+use Rattle.ipc.specs.declared.writer.WriteRefusal.{WriteRefusal}
 
 -- ---- what a writer answers: document 01's code and count
-abbrev pub written_code : Written → ℕ
-written_code (Written.Count n) = 0
-written_code (Written.Refused c) = c
+abbrev pub write_refusal_code : WriteRefusal → ℕ
+write_refusal_code WriteRefusal.Key = 40
+write_refusal_code WriteRefusal.Value = 41
+write_refusal_code WriteRefusal.Tag = 42
+write_refusal_code WriteRefusal.Length = 43
+write_refusal_code WriteRefusal.Room = 44
 
-abbrev pub written_count : Written → ℕ
-written_count (Written.Count n) = n
-written_count (Written.Refused c) = 0
+abbrev pub written_code : Result ℕ WriteRefusal → ℕ
+written_code (Ok n) = 0
+written_code (Err e) = write_refusal_code e
+
+abbrev pub written_count : Result ℕ WriteRefusal → ℕ
+written_count (Ok n) = n
+written_count (Err e) = 0
 
 -- the buffer after an answer: the frame and then the bytes as they were, or all as it was
-abbrev pub buffer_after : Written → List ℕ → List ℕ → List ℕ
-buffer_after (Written.Count n) frame before = at_front frame before
-buffer_after (Written.Refused c) frame before = before
+abbrev pub buffer_after : Result ℕ WriteRefusal → List ℕ → List ℕ → List ℕ
+buffer_after (Ok n) frame before = at_front frame before
+buffer_after (Err e) frame before = before
 
 -- ---- the format of a value that is handed in
 -- is an end at an offset
-abbrev pub ends_at : ℕ → OptionalEnd → Bool
-ends_at end (OptionalEnd.End e) = eqb e end
-ends_at end OptionalEnd.None = false
+abbrev pub ends_at : ℕ → Option ℕ → Bool
+ends_at end (Some e) = eqb e end
+ends_at end None = false
 
 -- are bytes exactly one list of torrent IDs
 unfoldable pub is_id_list : List ℕ → Bool
@@ -121,27 +128,30 @@ unfoldable pub frame_of : List ℕ → List ℕ
 frame_of payload = hex_header (length payload) ++ payload
 
 -- ---- the answer
--- a frame that is asked for, into a buffer of a length: 43, 44, or the count
-unfoldable pub fitted : List ℕ → ℕ → Written
+-- a frame that is asked for, into a buffer of a length: the count, 43 or 44
+unfoldable pub fitted : List ℕ → ℕ → Result ℕ WriteRefusal
 fitted payload room =
     cond (leb (length payload) largest_payload)
-    (cond (leb (length (frame_of payload)) room) (Written.Count (length (frame_of payload))) (Written.Refused 44))
-    (Written.Refused 43)
+    (cond (leb (length (frame_of payload)) room) (Ok (length (frame_of payload))) (Err WriteRefusal.Room))
+    (Err WriteRefusal.Length)
 
--- the refusal of a payload's length in a buffer of a length: 43, 44, or 0 for none
-unfoldable pub length_fault : ℕ → ℕ → ℕ
-length_fault size room = cond (leb size largest_payload) (cond (leb (header_length + size) room) 0 44) 43
+-- the refusal of a payload's length in a buffer of a length: 43 or 44
+unfoldable pub length_fault : ℕ → ℕ → Result (Unit {0}) WriteRefusal
+length_fault size room = cond (leb size largest_payload) (cond (leb (header_length + size) room) (Ok tt) (Err WriteRefusal.Room)) (Err WriteRefusal.Length)
 
--- the first refusal of a message whatever its length: 40, 41, 42, or 0 for none
-unfoldable pub message_fault : ℕ → Given → List ℕ → ℕ → ℕ
-message_fault key given s tag = cond (is_written key) (cond (value_fits (class_of key) given s) (cond (leb tag largest_tag) 0 42) 41) 40
+-- the first refusal of a message whatever its length: 40, 41 or 42
+unfoldable pub message_fault : ℕ → Given → List ℕ → ℕ → Result (Unit {0}) WriteRefusal
+message_fault key given s tag =
+    cond (is_written key)
+    (cond (value_fits (class_of key) given s) (cond (leb tag largest_tag) (Ok tt) (Err WriteRefusal.Tag)) (Err WriteRefusal.Value))
+    (Err WriteRefusal.Key)
 
 -- the answer to a message: 40 to 44 in document 01's order
-unfoldable pub write_answer : ℕ → Given → List ℕ → ℕ → ℕ → Written
-write_answer key given s tag room = cond (eqb (message_fault key given s tag) 0) (fitted (payload_of key given s tag) room) (Written.Refused (message_fault key given s tag))
+unfoldable pub write_answer : ℕ → Given → List ℕ → ℕ → ℕ → Result ℕ WriteRefusal
+write_answer key given s tag room = result_and (message_fault key given s tag) (fitted (payload_of key given s tag) room)
 
 -- what a writer did: its answer, also as document 01's code and count, and the whole buffer
-pub record Leaves (answer : Written) (payload before : List ℕ) (r : Written) (after : List ℕ) : Type 0 where
+pub record Leaves (answer : Result ℕ WriteRefusal) (payload before : List ℕ) (r : Result ℕ WriteRefusal) (after : List ℕ) : Type 0 where
   pub answered : r ≡ answer
   pub code : written_code r ≡ written_code answer
   pub count : written_count r ≡ written_count answer

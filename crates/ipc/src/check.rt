@@ -3,32 +3,24 @@ ghost use Rattle.std.specs.Prelude.{◌≡◌, leb};
 ghost use Rattle.ipc.specs.Ids.{largest_tag};
 ghost use Rattle.ipc.specs.Writer.{is_id_list, nothing_fits, integer_fits, bytes_fit, value_fits};
 
-use super::format::{Items, LARGEST_PORT, OptionalEnd, is_up_to, items_end};
-use super::ids::{OptionalTag, Tag};
+use super::format::{Items, LARGEST_PORT, is_up_to, items_end};
+use super::ids::Tag;
 use super::keys::Class;
 use super::writer::Given;
 use octets::byte_at;
 
 // Are bytes exactly one list of torrent IDs.
+#[tactic(auto, unfolding(crate::specs::Writer::is_id_list))]
 fn is_id_list(s: &[u8]) -> bool
     ensures { result ≡ is_id_list s.now }
 {
-    if byte_at(s, 0) != b'l' {
-        return false;
-    }
-    match items_end(s, 1, Items::Ids) {
-        OptionalEnd::End(end) => end == s.len(),
-        OptionalEnd::None => false,
-    }
+    byte_at(s, 0) == b'l' && items_end(s, 1, Items::Ids) == Some(s.len())
 }
 
 fn nothing_fits(class: Class) -> bool
     ensures { result ≡ nothing_fits class }
 {
-    match class {
-        Class::Ignored => true,
-        _ => false,
-    }
+    matches!(class, Class::Ignored)
 }
 
 fn integer_fits(class: Class, z: i64) -> bool
@@ -53,6 +45,7 @@ fn bytes_fit(class: Class, s: &[u8]) -> bool
 }
 
 // Is a value in a format; the bytes stand beside it.
+#[tactic(auto, unfolding(crate::specs::Writer::value_fits))]
 pub fn value_fits(class: Class, given: Given, s: &[u8]) -> bool
     ensures { result ≡ value_fits class given s.now }
 {
@@ -64,14 +57,9 @@ pub fn value_fits(class: Class, given: Given, s: &[u8]) -> bool
 }
 
 // Is a number that is handed in a tag, or 0 for none.
+#[tactic(auto, using(crate::proofs::formats::CheckLaws::tag_is))]
 pub fn tag_fits(tag: u32) -> bool
     ensures { result ≡ leb tag largest_tag }
 {
-    if tag == 0 {
-        return true;
-    }
-    match Tag::new(tag as i64) {
-        OptionalTag::Tag(_) => true,
-        OptionalTag::None => false,
-    }
+    tag == 0 || Tag::new(tag as i64).is_some()
 }

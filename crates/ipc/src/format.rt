@@ -7,21 +7,14 @@ ghost use Rattle.ipc.specs.Ids.{torrent_id_of};
 ghost use Rattle.ipc.specs.Format.{integer_value, text_value, part_value, end_of_text, end_by_id, id_end, torrent_end, item_end, items_end, list_part, formatted};
 
 use super::header::HEADER_LENGTH;
-use super::ids::{OptionalId, TorrentId};
+use super::ids::TorrentId;
 use super::keys::Class;
 use super::reading::Value;
-use bencode::{Field, Number, Text, field_of, integer, skip_rest, string};
+use bencode::{field_of, integer, skip_rest, string};
 use octets::byte_at;
 
 // The largest port.
 pub const LARGEST_PORT: u16 = 65535;
-
-// A value in its format, or off it.
-#[derive(Clone, Copy)]
-pub enum Checked {
-    Value(Value),
-    Off,
-}
 
 // What the items of a list are.
 #[derive(Clone, Copy)]
@@ -31,62 +24,41 @@ pub enum Items {
     Torrents,
 }
 
-// The offset after what is in its format, or none where it is off it.
-#[derive(Clone, Copy)]
-pub enum OptionalEnd {
-    End(usize),
-    None,
-}
-
 // Any integer.
-fn any_integer(p: &[u8], at: usize) -> Checked
+fn any_integer(p: &[u8], at: usize) -> Option<Value>
     ensures { result ≡ integer_value (λ z. true) (integer_at p.now at) }
 {
-    match integer(p, at) {
-        Number::Integer { value, end: _ } => Checked::Value(Value::Integer(value)),
-        Number::Fault(_) => Checked::Off,
-    }
+    Some(Value::Integer(integer(p, at).ok()?.value))
 }
 
 // Is an integer from 0 to another.
 pub fn is_up_to(z: i64, high: u16) -> bool
     ensures { result ≡ within 0 high z }
 {
-    if z < 0 {
-        return false;
-    }
-    if (high as i64) < z {
-        return false;
-    }
-    true
+    (0..=high as i64).contains(&z)
 }
 
 // An integer from 0 to another.
-fn up_to(p: &[u8], at: usize, high: u16) -> Checked
+fn up_to(p: &[u8], at: usize, high: u16) -> Option<Value>
     ensures { result ≡ integer_value (within 0 high) (integer_at p.now at) }
 {
     match integer(p, at) {
-        Number::Integer { value, end: _ } => {
-            if is_up_to(value, high) {
-                return Checked::Value(Value::Integer(value));
-            }
-            Checked::Off
-        }
-        Number::Fault(_) => Checked::Off,
+        Ok(number) if is_up_to(number.value, high) => Some(Value::Integer(number.value)),
+        _ => None,
     }
 }
 
 // The text of a string.
-fn text_value(p: &[u8], at: usize) -> Checked
+fn text_value(p: &[u8], at: usize) -> Option<Value>
     requires { length p.now ≤ largest_payload }
     ensures { result ≡ text_value (string_at p.now at) }
 {
     match string(p, at) {
-        Text::Bytes { start, end } => Checked::Value(Value::Text {
-            offset: HEADER_LENGTH + start,
-            length: end - start,
+        Ok(text) => Some(Value::Text {
+            offset: HEADER_LENGTH + text.start,
+            length: text.end - text.start,
         }),
-        Text::Fault(_) => Checked::Off,
+        Err(_) => None,
     }
 }
 
@@ -102,50 +74,43 @@ pub fn part_value(at: usize, end: usize) -> Value
 }
 
 // The offset after the string at an offset.
-fn text_end(p: &[u8], at: usize) -> OptionalEnd
+fn text_end(p: &[u8], at: usize) -> Option<usize>
     ensures { result ≡ end_of_text (string_at p.now at) }
 {
-    match string(p, at) {
-        Text::Bytes { start: _, end } => OptionalEnd::End(end),
-        Text::Fault(_) => OptionalEnd::None,
-    }
+    Some(string(p, at).ok()?.end)
 }
 
 // The offset after an item whose torrent ID is a number.
-fn end_by_id(z: i64, end: usize) -> OptionalEnd
+fn end_by_id(z: i64, end: usize) -> Option<usize>
     ensures { result ≡ end_by_id end (torrent_id_of z) }
 {
-    match TorrentId::new(z) {
-        OptionalId::Id(_) => OptionalEnd::End(end),
-        OptionalId::None => OptionalEnd::None,
-    }
+    TorrentId::new(z)?;
+    Some(end)
 }
 
 // The offset after the torrent ID at an offset.
-fn id_end(p: &[u8], at: usize) -> OptionalEnd
+#[tactic(auto, unfolding(crate::specs::Format::id_end))]
+fn id_end(p: &[u8], at: usize) -> Option<usize>
     ensures { result ≡ id_end p.now at }
 {
-    match integer(p, at) {
-        Number::Integer { value, end } => end_by_id(value, end),
-        Number::Fault(_) => OptionalEnd::None,
-    }
+    let id = integer(p, at).ok()?;
+    end_by_id(id.value, id.end)
 }
 
 // The offset after the torrent at an offset: a dictionary whose `id` is a torrent ID.
-fn torrent_end(p: &[u8], at: usize) -> OptionalEnd
+fn torrent_end(p: &[u8], at: usize) -> Option<usize>
     ensures { result ≡ torrent_end p.now at }
 {
     if byte_at(p, at) != b'd' {
-        return OptionalEnd::None;
+        return None;
     }
-    match field_of(p, at + 1, b"id") {
-        Field::Integer { value, end } => end_by_id(value, skip_rest(p, end)),
-        _ => OptionalEnd::None,
-    }
+    let id = field_of(p, at + 1, b"id")?.integer()?;
+    end_by_id(id.value, skip_rest(p, id.end))
 }
 
 // The offset after an item of a list.
-fn item_end(p: &[u8], at: usize, items: Items) -> OptionalEnd
+#[tactic(auto, unfolding(crate::specs::Format::item_end))]
+fn item_end(p: &[u8], at: usize, items: Items) -> Option<usize>
     ensures { result ≡ item_end items p.now at }
 {
     match items {
@@ -156,48 +121,39 @@ fn item_end(p: &[u8], at: usize, items: Items) -> OptionalEnd
 }
 
 // The offset after the items of a list.
-pub fn items_end(p: &[u8], from: usize, items: Items) -> OptionalEnd
+pub fn items_end(p: &[u8], from: usize, items: Items) -> Option<usize>
     ensures { result ≡ items_end items p.now from }
 {
     let mut at = from;
-    loop {
-        if byte_at(p, at) == b'e' {
-            return OptionalEnd::End(at + 1);
-        }
-        match item_end(p, at, items) {
-            OptionalEnd::End(end) => {
-                at = end;
-            }
-            OptionalEnd::None => {
-                return OptionalEnd::None;
-            }
-        }
+    while byte_at(p, at) != b'e' {
+        at = item_end(p, at, items)?;
     }
+    Some(at + 1)
 }
 
 // The list from an offset up to another.
-fn list_part(p: &[u8], at: usize, end: usize, items: Items) -> Checked
+#[tactic(auto, unfolding(crate::specs::Format::list_part))]
+fn list_part(p: &[u8], at: usize, end: usize, items: Items) -> Option<Value>
     requires { (at ≤ end) × (end ≤ largest_payload) }
     ensures { result ≡ list_part items p.now at end }
 {
     if byte_at(p, at) != b'l' {
-        return Checked::Off;
+        return None;
     }
-    match items_end(p, at + 1, items) {
-        OptionalEnd::End(_) => Checked::Value(part_value(at, end)),
-        OptionalEnd::None => Checked::Off,
-    }
+    items_end(p, at + 1, items)?;
+    Some(part_value(at, end))
 }
 
 // What a message holds of the value from an offset up to another.
-pub fn check_value(p: &[u8], class: Class, at: usize, end: usize) -> Checked
+#[tactic(auto, unfolding(crate::specs::Format::formatted))]
+pub fn check_value(p: &[u8], class: Class, at: usize, end: usize) -> Option<Value>
     requires { (at ≤ end) × (end ≤ length p.now) × (length p.now ≤ largest_payload) }
     ensures { result ≡ formatted class p.now at end }
 {
     match class {
-        Class::Unlisted => Checked::Value(part_value(at, end)),
+        Class::Unlisted => Some(part_value(at, end)),
         Class::Boolean => up_to(p, at, 1),
-        Class::Ignored => Checked::Value(Value::Nothing),
+        Class::Ignored => Some(Value::Nothing),
         Class::Text => text_value(p, at),
         Class::Integer => any_integer(p, at),
         Class::TextList => list_part(p, at, end, Items::Texts),

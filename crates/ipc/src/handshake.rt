@@ -1,47 +1,42 @@
 // Handshakes: a dictionary whose `version` is a range of versions.
-ghost use Rattle.std.specs.Prelude.{◌≡◌, ◌≤◌, length};
-ghost use Rattle.ipc.specs.Header.{largest_payload};
+ghost use Rattle.std.specs.Prelude.{◌≡◌};
 ghost use Rattle.ipc.specs.Handshake.{range_at, dictionary_versions, handshake_reading};
 
 use super::header::HEADER_LENGTH;
-use super::reading::Reading;
-use super::versions::{OptionalVersions, Versions};
+use super::payload::Payload;
+use super::reading::{Frame, Refusal};
+use super::versions::Versions;
 use bencode::{Field, field_of};
 
 // The versions from `min` to `max` of the dictionary whose entries start at an offset.
-fn range_at(p: &[u8], from: usize) -> OptionalVersions
+fn range_at(p: &[u8], from: usize) -> Option<Versions>
     ensures { result ≡ range_at p.now from }
 {
-    match field_of(p, from, b"min") {
-        Field::Integer { value: min, end: _ } => match field_of(p, from, b"max") {
-            Field::Integer { value: max, end: _ } => Versions::new(min, max),
-            _ => OptionalVersions::None,
-        },
-        _ => OptionalVersions::None,
-    }
+    let min = field_of(p, from, b"min")?.integer()?;
+    let max = field_of(p, from, b"max")?.integer()?;
+    Versions::new(min.value, max.value)
 }
 
 // The versions of the dictionary that a payload is: its `version` is one integer, or a dictionary with `min` and `max`.
-fn versions_of(p: &[u8]) -> OptionalVersions
+fn versions_of(p: &[u8]) -> Option<Versions>
     ensures { result ≡ dictionary_versions p.now }
 {
-    match field_of(p, 1, b"version") {
+    match field_of(p, 1, b"version")? {
         Field::Integer { value, end: _ } => Versions::new(value, value),
         Field::Dictionary(from) => range_at(p, from),
-        _ => OptionalVersions::None,
+        Field::Text { start: _, end: _ } => None,
+        Field::List(_) => None,
     }
 }
 
 // The answer for a payload that is a dictionary.
-pub fn handshake(p: &[u8]) -> Reading
-    requires { length p.now ≤ largest_payload }
-    ensures { result ≡ handshake_reading p.now }
+#[tactic(auto, unfolding(crate::specs::Handshake::handshake_reading))]
+pub fn handshake(p: Payload) -> Result<Frame, Refusal>
+    ensures { result ≡ handshake_reading p.entry.bytes.now }
 {
-    match versions_of(p) {
-        OptionalVersions::Range(versions) => Reading::Handshake {
-            versions,
-            consumed: HEADER_LENGTH + p.len(),
-        },
-        OptionalVersions::None => Reading::NoHandshake,
-    }
+    let versions = versions_of(p.bytes).ok_or(Refusal::NoHandshake)?;
+    Ok(Frame::Handshake {
+        versions,
+        consumed: HEADER_LENGTH + p.bytes.len(),
+    })
 }

@@ -6,8 +6,8 @@ ghost use Rattle.ipc.specs.HandshakeWriter.{handshake_payload, handshake_written
 
 use super::header::HEADER_LENGTH;
 use super::hex::hex_header;
-use super::versions::{OptionalVersions, Versions};
-use super::writer::Written;
+use super::versions::Versions;
+use super::writer::WriteRefusal;
 use bencode::{integer_length, put_integer};
 use octets::put_bytes;
 
@@ -29,22 +29,20 @@ fn put_handshake(out: &mut [u8], low: u32, high: u32, size: u32) -> usize
 }
 
 // Writes the handshake of a range.
-fn write_range(low: u32, high: u32, out: &mut [u8]) -> Written
+fn write_range(low: u32, high: u32, out: &mut [u8]) -> Result<usize, WriteRefusal>
     ensures { Leaves (fitted (handshake_payload low high) (length out.old)) (handshake_payload low high) out.old result out.new }
 {
     let size = integer_length(low as i64) + integer_length(high as i64) + HANDSHAKE_TEXT;
     if out.len() < HEADER_LENGTH + size {
-        return Written::Refused(Written::ROOM);
+        return Err(WriteRefusal::Room);
     }
-    Written::Count(put_handshake(out, low, high, size as u32))
+    Ok(put_handshake(out, low, high, size as u32))
 }
 
 // Writes a handshake at the front of a buffer, or refuses and writes nothing.
-pub fn write_handshake(low: u32, high: u32, out: &mut [u8]) -> Written
+pub fn write_handshake(low: u32, high: u32, out: &mut [u8]) -> Result<usize, WriteRefusal>
     ensures { Leaves (handshake_written low high (length out.old)) (handshake_payload low high) out.old result out.new }
 {
-    match Versions::new(low as i64, high as i64) {
-        OptionalVersions::Range(_) => write_range(low, high, out),
-        OptionalVersions::None => Written::Refused(Written::VALUE),
-    }
+    Versions::new(low as i64, high as i64).ok_or(WriteRefusal::Value)?;
+    write_range(low, high, out)
 }

@@ -2,9 +2,10 @@
 ghost use Rattle.std.specs.Prelude.{◌≡◌, ◌<◌};
 ghost use Rattle.ipc.specs.Hex.{hex_digit, hex_header};
 
-use super::header::UPPER;
+use super::header::HEADER_LENGTH;
 
 // The upper case digit of a number below 16.
+#[tactic(auto, unfolding(crate::specs::Hex::hex_digit))]
 fn hex_digit(d: u32) -> u8
     requires { d < 16 }
     ensures { result ≡ hex_digit d }
@@ -12,7 +13,7 @@ fn hex_digit(d: u32) -> u8
     if d < 10 {
         b'0' + d as u8
     } else {
-        UPPER + d as u8
+        b'A' - 10 + d as u8
     }
 }
 
@@ -20,14 +21,9 @@ fn hex_digit(d: u32) -> u8
 pub fn hex_header(n: u32) -> [u8; 8]
     ensures { result ≡ hex_header n }
 {
-    [
-        hex_digit(n / 268435456 % 16),
-        hex_digit(n / 16777216 % 16),
-        hex_digit(n / 1048576 % 16),
-        hex_digit(n / 65536 % 16),
-        hex_digit(n / 4096 % 16),
-        hex_digit(n / 256 % 16),
-        hex_digit(n / 16 % 16),
-        hex_digit(n % 16),
-    ]
+    let mut digits = [0; HEADER_LENGTH];
+    for k in 0..HEADER_LENGTH {
+        digits[k] = hex_digit(n >> (28 - 4 * k) & 15);
+    }
+    digits
 }

@@ -1,33 +1,35 @@
 // Tags and torrent IDs: two types, so that neither is ever taken where the other belongs.
 ghost use Rattle.std.specs.Prelude.{◌≡◌};
-ghost use Rattle.ipc.specs.Ids.{tag_of, torrent_id_of};
+ghost use Rattle.ipc.specs.Ids.{number_in, tag_of, torrent_id_of};
+
+// A number from 1 to the largest, or none where it is out of range.
+#[tactic(auto, using(crate::proofs::formats::IdLaws::numbers))]
+pub fn number_in(largest: u32, n: i64) -> Option<u32>
+    ensures { result ≡ number_in largest n }
+{
+    if n < 1 {
+        return None;
+    }
+    if (largest as i64) < n {
+        return None;
+    }
+    Some(n as u32)
+}
 
 // The tag of a message.
 #[derive(Clone, Copy)]
 pub struct Tag(u32);
 
-// A tag, or none.
-#[derive(Clone, Copy)]
-pub enum OptionalTag {
-    Tag(Tag),
-    None,
-}
-
 impl Tag {
     // The largest tag.
-    pub const LARGEST: i64 = 2147483647;
+    pub const LARGEST: u32 = 2147483647;
 
     // The tag of a number, or none where it is out of range.
-    pub fn new(n: i64) -> OptionalTag
+    #[tactic(auto, using(crate::proofs::formats::IdLaws::tags))]
+    pub fn new(n: i64) -> Option<Tag>
         ensures { result ≡ tag_of n }
     {
-        if n < 1 {
-            return OptionalTag::None;
-        }
-        if Tag::LARGEST < n {
-            return OptionalTag::None;
-        }
-        OptionalTag::Tag(Tag(n as u32))
+        Some(Tag(number_in(Tag::LARGEST, n)?))
     }
 
     pub fn number(self) -> u32
@@ -41,29 +43,16 @@ impl Tag {
 #[derive(Clone, Copy)]
 pub struct TorrentId(u32);
 
-// A torrent ID, or none.
-#[derive(Clone, Copy)]
-pub enum OptionalId {
-    Id(TorrentId),
-    None,
-}
-
 impl TorrentId {
     // The largest torrent ID.
-    pub const LARGEST: i64 = 2147483647;
+    pub const LARGEST: u32 = 2147483647;
 
     // The torrent ID of a number, or none where it is out of range.
-    pub fn new(n: i64) -> OptionalId
+    #[tactic(auto, using(crate::proofs::formats::IdLaws::ids))]
+    pub fn new(n: i64) -> Option<TorrentId>
         ensures { result ≡ torrent_id_of n }
     {
-        if n < 1 {
-            return OptionalId::None;
-        }
-        let above = TorrentId::LARGEST < n;
-        if above {
-            return OptionalId::None;
-        }
-        OptionalId::Id(TorrentId(n as u32))
+        Some(TorrentId(number_in(TorrentId::LARGEST, n)?))
     }
 
     pub fn number(self) -> u32

@@ -21,6 +21,7 @@ pub enum Class {
 }
 
 // A listed key: its bytes and how many they are, the format of its value, and whether it is written.
+// Stays: the table of bytes, length, format and written flag is document 01's.
 #[derive(Clone, Copy)]
 pub struct KeyRow {
     pub text: [u8; 14],
@@ -173,31 +174,24 @@ fn row_at(k: usize) -> KeyRow
 }
 
 // A key by its number and the format of its values. One that is not listed has the number 0.
+// Stays: the numbers are document 01's, with 0 for a key that is not listed.
 #[derive(Clone, Copy)]
 pub struct Key {
     pub number: u8,
     pub class: Class,
 }
 
-// The key with a text. The table is copied once for both answers, and a row of it only where the lengths are equal.
+// The key with a text.
 pub fn key_of(text: &[u8]) -> Key
     ensures { (result.number ≡ key_number text.now) × (result.class ≡ class_of (key_number text.now)) }
 {
-    let keys = KEYS;
-    let mut k: usize = 0;
-    while k < LISTED {
-        let next = k + 1;
-        let n = keys[k].length;
-        if n == text.len() {
-            let row = keys[k];
-            let name = row.text;
-            if octets::same(&name[..n], text) {
-                let number = next as u8;
-                let class = row.class;
-                return Key { number, class };
-            }
+    for (k, row) in KEYS.iter().enumerate() {
+        if row.length == text.len() && octets::same(&row.text[..row.length], text) {
+            return Key {
+                number: k as u8 + 1,
+                class: row.class,
+            };
         }
-        k = next;
     }
     Key {
         number: 0,
@@ -209,17 +203,14 @@ pub fn key_of(text: &[u8]) -> Key
 fn row_of(number: u8) -> KeyRow
     ensures { result ≡ row_of (listed_at number) }
 {
-    if number == 0 {
-        return UNLISTED;
+    match (number as usize).checked_sub(1) {
+        Some(k) if k < LISTED => row_at(k),
+        _ => UNLISTED,
     }
-    let k = (number - 1) as usize;
-    if LISTED <= k {
-        return UNLISTED;
-    }
-    row_at(k)
 }
 
 // The format of the values of a key.
+#[tactic(auto, unfolding(crate::specs::Keys::class_of))]
 pub fn class_of(number: u8) -> Class
     ensures { result ≡ class_of number }
 {
@@ -228,6 +219,7 @@ pub fn class_of(number: u8) -> Class
 }
 
 // Is a key written here.
+#[tactic(auto, unfolding(crate::specs::Keys::is_written))]
 pub fn is_written(number: u8) -> bool
     ensures { result ≡ is_written number }
 {

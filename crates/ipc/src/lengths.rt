@@ -17,11 +17,7 @@ const EMPTY_STRING: usize = 2;
 fn cut(n: usize) -> usize
     ensures { result ≡ min n (largest_payload + 1) }
 {
-    let most = PayloadLength::LARGEST as usize;
-    if most < n {
-        return most + 1;
-    }
-    n
+    n.min(PayloadLength::LARGEST as usize + 1)
 }
 
 fn string_length(s: &[u8]) -> usize
@@ -41,6 +37,7 @@ fn bytes_length(class: Class, s: &[u8]) -> usize
 }
 
 // How long a value is as it is written, cut as above.
+#[tactic(auto, using(crate::proofs::writing::LengthLaws::nothing_length), unfolding(crate::specs::Writer::encode_given))]
 pub fn value_length(class: Class, given: Given, s: &[u8]) -> usize
     ensures { result ≡ min (length (encode_given class given s.now)) (largest_payload + 1) }
 {

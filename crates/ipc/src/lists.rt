@@ -3,19 +3,19 @@ ghost use Rattle.std.specs.Prelude.{◌≡◌};
 ghost use Rattle.bencode.specs.declared.profile.Profile.{Profile};
 ghost use Rattle.bencode.specs.Integers.{integer_at};
 ghost use Rattle.ipc.specs.declared.format.Items.{Items};
-ghost use Rattle.ipc.specs.Lists.{closed_at, Listing, is_id};
+ghost use Rattle.ipc.specs.Lists.{closed_at, Listing, ListingOrFault, is_id};
 
-use super::ids::{OptionalId, TorrentId};
-use bencode::{Fault, Noted, Number, Profile, integer, positives, record, texts};
+use super::ids::TorrentId;
+use bencode::{Fault, Profile, integer, positives, record, texts};
 use octets::byte_at;
 
-// A list whose items are all in their format, by the offset after it; a list that comes to what it comes to from an offset on,
-// given up because no item in its format stands there or just before; or the list's first fault.
+// A list whose items are all in their format, by the offset after it; or a list that comes to what it comes to from an offset on,
+// given up because no item in its format stands there or just before.
+// Stays: both cases are an offset from which the walk goes on, and a Result<usize, usize> would not say which of them it is.
 #[derive(Clone, Copy)]
 pub enum ListCheck {
     Fits(usize),
     Off(usize),
-    Fault(Fault),
 }
 
 // The list whose items before an offset are in their format: it ends there, or is given up there.
@@ -47,40 +47,31 @@ fn is_id(p: &[u8], at: usize) -> bool
     ensures { result ≡ is_id (integer_at p.now at) }
 {
     match integer(p, at) {
-        Number::Integer { value, end: _ } => match TorrentId::new(value) {
-            OptionalId::Id(_) => true,
-            OptionalId::None => false,
-        },
-        Number::Fault(_) => false,
+        Ok(number) => TorrentId::new(number.value).is_some(),
+        Err(_) => false,
     }
 }
 
-// The list of torrents whose items start at an offset: dictionaries whose `id` is a torrent ID.
-pub fn torrent_list(p: &[u8], from: usize, profile: Profile) -> ListCheck
-    ensures { Listing profile Items.Torrents p.now from result }
+// The list of torrents whose items start at an offset: dictionaries whose `id` is a torrent ID; or its first fault.
+pub fn torrent_list(p: &[u8], from: usize, profile: Profile) -> Result<ListCheck, Fault>
+    ensures { ListingOrFault profile Items.Torrents p.now from result }
 {
     let mut at = from;
     loop {
         let b = byte_at(p, at);
         if b == b'e' {
-            return ListCheck::Fits(at + 1);
+            return Ok(ListCheck::Fits(at + 1));
         }
         if b != b'd' {
-            return ListCheck::Off(at);
+            return Ok(ListCheck::Off(at));
         }
-        match record(p, at + 1, b"id", profile) {
-            Noted::Found { end, value } => {
-                if !is_id(p, value) {
-                    return ListCheck::Off(end);
-                }
-                at = end;
-            }
-            Noted::Missing(end) => {
-                return ListCheck::Off(end);
-            }
-            Noted::Fault(f) => {
-                return ListCheck::Fault(f);
-            }
+        let noted = record(p, at + 1, b"id", profile)?;
+        let Some(id) = noted.value else {
+            return Ok(ListCheck::Off(noted.end));
+        };
+        if !is_id(p, id) {
+            return Ok(ListCheck::Off(noted.end));
         }
+        at = noted.end;
     }
 }

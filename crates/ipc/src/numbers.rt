@@ -1,13 +1,14 @@
 // The reader's answer as numbers, for callers that take no enum. What an answer does not name is 0.
 ghost use Rattle.std.specs.Prelude.{◌≡◌};
-ghost use Rattle.ipc.specs.Answer.{nothing, versions, refused, off_format, accepted, accepted_handshake, tag_number, content_of, answer_of};
+ghost use Rattle.ipc.specs.Answer.{nothing, versions, refused, off_format, accepted, accepted_handshake, tag_number, content_of, refusal_answer, answer_of};
 ghost use Rattle.ipc.specs.Numbers.{placed, numbered, value_numbers, numbers_of};
 
-use super::ids::OptionalTag;
-use super::reading::{Message, Reading, Value};
+use super::ids::Tag;
+use super::reading::{Frame, Message, Refusal, Value};
 use super::versions::Versions;
 
 // The value of an answer, by its kind.
+// Stays: the C interface has the kinds as numbers.
 #[repr(C)]
 #[derive(Clone, Copy)]
 pub struct ValueNumbers {
@@ -29,9 +30,66 @@ impl ValueNumbers {
     pub const PART: u8 = 3;
     // A handshake's versions.
     pub const VERSIONS: u8 = 4;
+
+    // No value.
+    const NONE: ValueNumbers = ValueNumbers {
+        kind: ValueNumbers::NOTHING,
+        min: 0,
+        max: 0,
+        start: 0,
+        length: 0,
+        integer: 0,
+    };
+
+    // A part of the frame.
+    fn of_part(kind: u8, start: usize, length: usize) -> ValueNumbers
+        ensures { result ≡ placed kind start length }
+    {
+        ValueNumbers {
+            kind,
+            start,
+            length,
+            ..ValueNumbers::NONE
+        }
+    }
+}
+
+impl From<Value> for ValueNumbers {
+    ghost from_gives = { λ v n. n ≡ value_numbers (content_of v) };
+
+    fn from(value: Value) -> ValueNumbers {
+        match value {
+            Value::Nothing => ValueNumbers::NONE,
+            Value::Integer(integer) => ValueNumbers {
+                kind: ValueNumbers::INTEGER,
+                integer,
+                ..ValueNumbers::NONE
+            },
+            Value::Text { offset, length } => {
+                ValueNumbers::of_part(ValueNumbers::TEXT, offset, length)
+            }
+            Value::Part { offset, length } => {
+                ValueNumbers::of_part(ValueNumbers::PART, offset, length)
+            }
+        }
+    }
+}
+
+impl From<Versions> for ValueNumbers {
+    ghost from_gives = { λ v n. n ≡ value_numbers (versions v.min v.max) };
+
+    fn from(versions: Versions) -> ValueNumbers {
+        ValueNumbers {
+            kind: ValueNumbers::VERSIONS,
+            min: versions.min(),
+            max: versions.max(),
+            ..ValueNumbers::NONE
+        }
+    }
 }
 
 // The seven fields of document 01's answer. A refusal is of no kind, so that its kind is never taken for a message's.
+// Stays: the C interface has codes and kinds as numbers, and 0 for what is not there.
 #[repr(C)]
 #[derive(Clone, Copy)]
 pub struct Numbers {
@@ -52,152 +110,92 @@ impl Numbers {
     pub const HANDSHAKE: u8 = 2;
     // The one refusal that has a key and a tag: the value is off its format.
     pub const OFF_FORMAT: u8 = 22;
+
+    // An answer that names nothing.
+    const NONE: Numbers = Numbers {
+        code: 0,
+        kind: Numbers::NO_KIND,
+        key: 0,
+        tag: 0,
+        offset: 0,
+        consumed: 0,
+        value: ValueNumbers::NONE,
+    };
 }
 
-// A part of the frame, or nothing.
-fn part_numbers(kind: u8, start: usize, length: usize) -> ValueNumbers
-    ensures { result ≡ placed kind start length }
-{
-    ValueNumbers {
-        kind,
-        min: 0,
-        max: 0,
-        start,
-        length,
-        integer: 0,
-    }
-}
-
-fn integer_numbers(integer: i64) -> ValueNumbers
-    ensures { result ≡ numbered integer }
-{
-    ValueNumbers {
-        kind: ValueNumbers::INTEGER,
-        min: 0,
-        max: 0,
-        start: 0,
-        length: 0,
-        integer,
-    }
-}
-
-fn nothing_numbers() -> ValueNumbers
-    ensures { result ≡ value_numbers nothing }
-{
-    part_numbers(ValueNumbers::NOTHING, 0, 0)
-}
-
-fn value_numbers(value: Value) -> ValueNumbers
-    ensures { result ≡ value_numbers (content_of value) }
-{
-    match value {
-        Value::Nothing => nothing_numbers(),
-        Value::Integer(z) => integer_numbers(z),
-        Value::Text { offset, length } => part_numbers(ValueNumbers::TEXT, offset, length),
-        Value::Part { offset, length } => part_numbers(ValueNumbers::PART, offset, length),
-    }
-}
-
-fn versions_numbers(v: Versions) -> ValueNumbers
-    ensures { result ≡ value_numbers (versions v.min v.max) }
-{
-    ValueNumbers {
-        kind: ValueNumbers::VERSIONS,
-        min: v.min(),
-        max: v.max(),
-        start: 0,
-        length: 0,
-        integer: 0,
-    }
-}
-
-fn tag_number(tag: OptionalTag) -> u32
+fn tag_number(tag: Option<Tag>) -> u32
     ensures { result ≡ tag_number tag }
 {
-    match tag {
-        OptionalTag::Tag(t) => t.number(),
-        OptionalTag::None => 0,
-    }
+    tag.map_or(0, |t| t.number())
 }
 
 fn of_refusal(code: u8, offset: usize) -> Numbers
     ensures { result ≡ numbers_of (refused code offset) }
 {
-    let value = nothing_numbers();
     Numbers {
         code,
-        kind: Numbers::NO_KIND,
-        key: 0,
-        tag: 0,
         offset,
-        consumed: 0,
-        value,
+        ..Numbers::NONE
     }
 }
 
 fn of_message(message: Message, consumed: usize) -> Numbers
     ensures { result ≡ numbers_of (accepted consumed message.key (tag_number message.tag) (content_of message.value)) }
 {
-    let tag = message.tag;
-    let tag = tag_number(tag);
-    let value = message.value;
-    let value = value_numbers(value);
     Numbers {
-        code: 0,
         kind: Numbers::MESSAGE,
         key: message.key,
-        tag,
-        offset: 0,
+        tag: tag_number(message.tag),
         consumed,
-        value,
+        value: ValueNumbers::from(message.value),
+        ..Numbers::NONE
     }
 }
 
 fn of_handshake(versions: Versions, consumed: usize) -> Numbers
     ensures { result ≡ numbers_of (accepted_handshake consumed versions.min versions.max) }
 {
-    let value = versions_numbers(versions);
     Numbers {
-        code: 0,
         kind: Numbers::HANDSHAKE,
-        key: 0,
-        tag: 0,
-        offset: 0,
         consumed,
-        value,
+        value: ValueNumbers::from(versions),
+        ..Numbers::NONE
     }
 }
 
-fn of_off_format(key: u8, tag: OptionalTag) -> Numbers
+fn of_off_format(key: u8, tag: Option<Tag>) -> Numbers
     ensures { result ≡ numbers_of (off_format key (tag_number tag)) }
 {
-    let tag = tag_number(tag);
-    let value = nothing_numbers();
     Numbers {
         code: Numbers::OFF_FORMAT,
-        kind: Numbers::NO_KIND,
         key,
-        tag,
-        offset: 0,
-        consumed: 0,
-        value,
+        tag: tag_number(tag),
+        ..Numbers::NONE
+    }
+}
+
+fn refusal_numbers(refusal: Refusal) -> Numbers
+    ensures { result ≡ numbers_of (refusal_answer refusal) }
+{
+    match refusal {
+        Refusal::Incomplete => of_refusal(1, 0),
+        Refusal::NoDigit(at) => of_refusal(2, at),
+        Refusal::OverProtocol => of_refusal(3, 0),
+        Refusal::OverLimit => of_refusal(4, 0),
+        Refusal::Payload(f) => of_refusal(f.cause.code(), f.offset),
+        Refusal::NoMessage => of_refusal(20, 0),
+        Refusal::NoHandshake => of_refusal(21, 0),
+        Refusal::OffFormat { key, tag } => of_off_format(key, tag),
     }
 }
 
 // The numbers of a reading.
-pub fn numbers_of(reading: Reading) -> Numbers
+pub fn numbers_of(reading: Result<Frame, Refusal>) -> Numbers
     ensures { result ≡ numbers_of (answer_of reading) }
 {
     match reading {
-        Reading::Message { message, consumed } => of_message(message, consumed),
-        Reading::Handshake { versions, consumed } => of_handshake(versions, consumed),
-        Reading::Incomplete => of_refusal(1, 0),
-        Reading::NoDigit(at) => of_refusal(2, at),
-        Reading::OverProtocol => of_refusal(3, 0),
-        Reading::OverLimit => of_refusal(4, 0),
-        Reading::Payload(f) => of_refusal(f.code, f.offset),
-        Reading::NoMessage => of_refusal(20, 0),
-        Reading::NoHandshake => of_refusal(21, 0),
-        Reading::OffFormat { key, tag } => of_off_format(key, tag),
+        Ok(Frame::Message { message, consumed }) => of_message(message, consumed),
+        Ok(Frame::Handshake { versions, consumed }) => of_handshake(versions, consumed),
+        Err(refusal) => refusal_numbers(refusal),
     }
 }

@@ -1,66 +1,58 @@
 // The reader of frames.
-ghost use Rattle.std.specs.Prelude.{◌≡◌, ◌≤◌, length};
+ghost use Rattle.std.specs.Prelude.{◌≡◌, ◌≤◌};
 ghost use Rattle.bencode.specs.declared.profile.Profile.{Profile};
 ghost use Rattle.ipc.specs.Header.{largest_payload};
 ghost use Rattle.ipc.specs.Answer.{answer_of};
 ghost use Rattle.ipc.specs.Reader.{payload_reading, length_reading, reading_by, read_frame_by, frame_reading, read_frame};
 
 use super::handshake::handshake;
-use super::header::{HEADER_LENGTH, Header, PayloadLength, Sized, read_header};
+use super::header::{HEADER_LENGTH, PayloadLength, read_header};
 use super::message::message;
-use super::reading::Reading;
-use bencode::{Profile, Walk, payload};
+use super::payload::Payload;
+use super::reading::{Frame, Refusal};
+use bencode::{Profile, payload};
 use octets::byte_at;
 
 // The answer for a payload.
-fn read_payload(p: &[u8], profile: Profile) -> Reading
-    requires { length p.now ≤ largest_payload }
-    ensures { result ≡ payload_reading profile p.now }
+#[tactic(auto, unfolding(crate::specs::Reader::payload_reading))]
+fn read_payload(p: Payload) -> Result<Frame, Refusal>
+    ensures { result ≡ payload_reading p.entry.profile p.entry.bytes.now }
 {
-    let b = byte_at(p, 0);
+    let b = byte_at(p.bytes, 0);
     if b == b'l' {
-        return message(p, profile);
+        return message(p);
     }
-    match payload(p, profile) {
-        Walk::Fault(f) => Reading::Payload(f),
-        Walk::End(_) => {
-            if b == b'd' {
-                return handshake(p);
-            }
-            Reading::NoMessage
-        }
+    payload(p.bytes, p.profile)?;
+    if b == b'd' {
+        return handshake(p);
     }
+    Err(Refusal::NoMessage)
 }
 
 // The answer for a frame whose payload has a length.
-fn read_length(s: &[u8], length: PayloadLength, profile: Profile) -> Reading
+fn read_length(s: &[u8], length: PayloadLength, profile: Profile) -> Result<Frame, Refusal>
     requires { length.0 ≤ largest_payload }
     ensures { result ≡ length_reading profile s.now length.0 }
 {
     let end = HEADER_LENGTH + length.number() as usize;
     if s.len() < end {
-        return Reading::Incomplete;
+        return Err(Refusal::Incomplete);
     }
-    read_payload(&s[HEADER_LENGTH..end], profile)
+    let bytes = &s[HEADER_LENGTH..end];
+    read_payload(Payload { bytes, profile })
 }
 
 // The answer for the frame at the front of the bytes.
-fn read_by(s: &[u8], profile: Profile) -> Reading
+fn read_by(s: &[u8], profile: Profile) -> Result<Frame, Refusal>
     ensures { result ≡ reading_by profile s.now }
 {
-    match read_header(s) {
-        Header::Length(n) => match PayloadLength::new(n) {
-            Sized::Length(length) => read_length(s, length, profile),
-            Sized::OverLimit => Reading::OverLimit,
-            Sized::OverProtocol => Reading::OverProtocol,
-        },
-        Header::NoDigit(at) => Reading::NoDigit(at),
-        Header::Short => Reading::Incomplete,
-    }
+    let n = read_header(s)?;
+    let length = PayloadLength::new(n)?;
+    read_length(s, length, profile)
 }
 
 // Reads the frame at the front of the bytes. Bytes after it are left for the next read.
-pub fn read(s: &[u8]) -> Reading
+pub fn read(s: &[u8]) -> Result<Frame, Refusal>
     ensures answer { result ≡ frame_reading s.now }
     ensures numbers { answer_of result ≡ read_frame s.now }
 {
@@ -68,7 +60,7 @@ pub fn read(s: &[u8]) -> Reading
 }
 
 // The same in the strict profile: a key that does not rise is refused by 11.
-pub fn read_strict(s: &[u8]) -> Reading
+pub fn read_strict(s: &[u8]) -> Result<Frame, Refusal>
     ensures answer { result ≡ reading_by Profile.Strict s.now }
     ensures numbers { answer_of result ≡ read_frame_by Profile.Strict s.now }
 {

@@ -1,6 +1,10 @@
 // What reading a frame answers.
-use super::ids::OptionalTag;
+ghost use Rattle.std.specs.Prelude.{◌≡◌};
+ghost use Rattle.ipc.specs.declared.reading.Refusal.{Refusal};
+
+use super::ids::Tag;
 use super::versions::Versions;
+use bencode::Fault;
 
 // The value of a message. Offsets count from the frame's first byte.
 #[derive(Clone, Copy)]
@@ -15,18 +19,24 @@ pub enum Value {
 }
 
 // A message: the number of its key, its tag and its value.
+// Stays: a key is its number in the table of keys.
 #[derive(Clone, Copy)]
 pub struct Message {
     pub key: u8,
-    pub tag: OptionalTag,
+    pub tag: Option<Tag>,
     pub value: Value,
 }
 
-// The answer to a frame.
+// A frame that is accepted, and how many bytes it has.
 #[derive(Clone, Copy)]
-pub enum Reading {
+pub enum Frame {
     Message { message: Message, consumed: usize },
     Handshake { versions: Versions, consumed: usize },
+}
+
+// Why a frame is refused.
+#[derive(Clone, Copy)]
+pub enum Refusal {
     // The frame is not all there.
     Incomplete,
     // A header byte is no hex digit.
@@ -36,11 +46,19 @@ pub enum Reading {
     // The payload is longer than this library takes.
     OverLimit,
     // The payload is not one bencoded value.
-    Payload(bencode::Fault),
+    Payload(Fault),
     // Neither a message nor a dictionary.
     NoMessage,
     // A dictionary that is no handshake.
     NoHandshake,
     // A listed key's value is off its format.
-    OffFormat { key: u8, tag: OptionalTag },
+    OffFormat { key: u8, tag: Option<Tag> },
+}
+
+impl From<Fault> for Refusal {
+    ghost from_gives = { λ f r. r ≡ Refusal.Payload f };
+
+    fn from(f: Fault) -> Refusal {
+        Refusal::Payload(f)
+    }
 }

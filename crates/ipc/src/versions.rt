@@ -1,6 +1,8 @@
 // The versions of a handshake, and the version that two ranges agree on.
-ghost use Rattle.std.specs.Prelude.{◌≡◌, min, max};
-ghost use Rattle.ipc.specs.Versions.{range_of, largest_common, agreed_version};
+ghost use Rattle.std.specs.Prelude.{◌≡◌, pos};
+ghost use Rattle.ipc.specs.Versions.{range_of, largest_common, agreed, agreed_version};
+
+use super::ids::number_in;
 
 // A range of versions, from the smallest to the largest.
 #[derive(Clone, Copy)]
@@ -9,35 +11,21 @@ pub struct Versions {
     max: u32,
 }
 
-// A range of versions, or none.
-#[derive(Clone, Copy)]
-pub enum OptionalVersions {
-    Range(Versions),
-    None,
-}
-
 impl Versions {
     // The largest version.
-    pub const LARGEST: i64 = 2147483647;
+    pub const LARGEST: u32 = 2147483647;
 
     // The range from one number to another, or none where it is empty or a number is out of range.
-    pub fn new(min: i64, max: i64) -> OptionalVersions
+    #[tactic(auto, using(crate::proofs::frames::VersionLaws::ranges))]
+    pub fn new(min: i64, max: i64) -> Option<Versions>
         ensures { result ≡ range_of min max }
     {
-        let below = min < 1;
-        if below {
-            return OptionalVersions::None;
-        }
+        let min = number_in(Versions::LARGEST, min)?;
+        let max = number_in(Versions::LARGEST, max)?;
         if max < min {
-            return OptionalVersions::None;
+            return None;
         }
-        if Versions::LARGEST < max {
-            return OptionalVersions::None;
-        }
-        OptionalVersions::Range(Versions {
-            min: min as u32,
-            max: max as u32,
-        })
+        Some(Versions { min, max })
     }
 
     pub fn min(self) -> u32
@@ -53,39 +41,30 @@ impl Versions {
     }
 }
 
-fn larger(a: u32, b: u32) -> u32
-    ensures { result ≡ max a b }
-{
-    if a < b { b } else { a }
-}
-
-fn smaller(a: u32, b: u32) -> u32
-    ensures { result ≡ min a b }
-{
-    if a < b { a } else { b }
-}
-
-// The largest version in two ranges, and 0 where there is none.
-fn largest_common(a: Versions, b: Versions) -> u32
+// The largest version in two ranges, or none.
+fn largest_common(a: Versions, b: Versions) -> Option<u32>
     ensures { result ≡ largest_common a b }
 {
-    let least = larger(a.min, b.min);
-    let most = smaller(a.max, b.max);
-    if least <= most {
-        return most;
+    let least = a.min.max(b.min);
+    let most = a.max.min(b.max);
+    if most < least {
+        return None;
     }
-    0
+    Some(most)
+}
+
+// The largest version in two ranges, or none, also where either is no range.
+fn agreed(low: u32, high: u32, low2: u32, high2: u32) -> Option<u32>
+    ensures { result ≡ agreed (range_of (pos low) (pos high)) (range_of (pos low2) (pos high2)) }
+{
+    let a = Versions::new(low as i64, high as i64)?;
+    let b = Versions::new(low2 as i64, high2 as i64)?;
+    largest_common(a, b)
 }
 
 // The version that two ranges agree on: the largest in both, or 0 if there is none or if either is no range.
 pub fn agreed_version(low: u32, high: u32, low2: u32, high2: u32) -> u32
     ensures { result ≡ agreed_version low high low2 high2 }
 {
-    match Versions::new(low as i64, high as i64) {
-        OptionalVersions::Range(a) => match Versions::new(low2 as i64, high2 as i64) {
-            OptionalVersions::Range(b) => largest_common(a, b),
-            OptionalVersions::None => 0,
-        },
-        OptionalVersions::None => 0,
-    }
+    agreed(low, high, low2, high2).unwrap_or(0)
 }

@@ -1,10 +1,10 @@
 // The writer of messages.
 ghost use Rattle.std.specs.Prelude.{◌≡◌, ◌≤◌, length};
 ghost use Rattle.octets.specs.Put.{Wrote, Put};
-ghost use Rattle.ipc.specs.Writer.{encode_bytes, encode_given, encode_tag, payload_of, frame_of, message_fault, length_fault, write_answer, Leaves};
+ghost use Rattle.ipc.specs.Writer.{encode_bytes, encode_given, encode_tag, payload_of, frame_of, message_fault, length_fault, write_answer, write_refusal_code, Leaves};
 
 use super::check::{tag_fits, value_fits};
-use super::header::{HEADER_LENGTH, PayloadLength, Sized};
+use super::header::{HEADER_LENGTH, PayloadLength};
 use super::hex::hex_header;
 use super::keys::{Class, class_of, is_written, put_key};
 use super::lengths::{key_length, tag_length, value_length};
@@ -12,6 +12,7 @@ use bencode::{put_integer, put_string};
 use octets::put_bytes;
 
 // A value handed in: nothing, an integer, or bytes that stand beside it.
+// Stays: with the bytes in the case, each statement on writers would take a borrow where it takes a list of bytes.
 #[derive(Clone, Copy)]
 pub enum Given {
     Nothing,
@@ -19,24 +20,34 @@ pub enum Given {
     Bytes,
 }
 
-// What a writer answers: how many bytes the frame has, or the code of the refusal.
+// Why a message or a handshake is not written.
 #[derive(Clone, Copy)]
-pub enum Written {
-    Count(usize),
-    Refused(u8),
+pub enum WriteRefusal {
+    // A key that is not written.
+    Key,
+    // A value off its format, or no range of versions.
+    Value,
+    // A tag over the largest.
+    Tag,
+    // A payload over the largest.
+    Length,
+    // A buffer shorter than the frame.
+    Room,
 }
 
-impl Written {
-    // A key that is not written.
-    pub const KEY: u8 = 40;
-    // A value off its format, or no range of versions.
-    pub const VALUE: u8 = 41;
-    // A tag over the largest.
-    pub const TAG: u8 = 42;
-    // A payload over the largest.
-    pub const LENGTH: u8 = 43;
-    // A buffer shorter than the frame.
-    pub const ROOM: u8 = 44;
+impl WriteRefusal {
+    // The number of a refusal, 40 to 44.
+    pub fn code(self) -> u8
+        ensures { result ≡ write_refusal_code self }
+    {
+        match self {
+            WriteRefusal::Key => 40,
+            WriteRefusal::Value => 41,
+            WriteRefusal::Tag => 42,
+            WriteRefusal::Length => 43,
+            WriteRefusal::Room => 44,
+        }
+    }
 }
 
 // A payload's `l` and `e`.
@@ -73,35 +84,35 @@ fn put_tag(out: &mut [u8], at: usize, tag: u32) -> usize
     put_integer(out, at, tag as i64)
 }
 
-// The first refusal of a message whatever its length: 40, 41, 42, or 0 for none.
-fn message_fault(key: u8, given: Given, s: &[u8], tag: u32) -> u8
+// The first refusal of a message whatever its length.
+#[tactic(auto, unfolding(crate::specs::Writer::message_fault))]
+fn message_fault(key: u8, given: Given, s: &[u8], tag: u32) -> Result<(), WriteRefusal>
     ensures { result ≡ message_fault key given s.now tag }
 {
-    if is_written(key) {
-        if value_fits(class_of(key), given, s) {
-            if tag_fits(tag) {
-                return 0;
-            }
-            return Written::TAG;
-        }
-        return Written::VALUE;
+    if !is_written(key) {
+        return Err(WriteRefusal::Key);
     }
-    Written::KEY
+    if !value_fits(class_of(key), given, s) {
+        return Err(WriteRefusal::Value);
+    }
+    if !tag_fits(tag) {
+        return Err(WriteRefusal::Tag);
+    }
+    Ok(())
 }
 
-// The refusal of a payload's length in a room: 43, 44, or 0 for none.
-fn length_fault(size: u32, room: usize) -> u8
+// The refusal of a payload's length in a room.
+#[tactic(auto, unfolding(crate::specs::Writer::length_fault, crate::specs::Header::sized))]
+fn length_fault(size: u32, room: usize) -> Result<(), WriteRefusal>
     ensures { result ≡ length_fault size room }
 {
-    match PayloadLength::new(size) {
-        Sized::Length(_) => {
-            if room < HEADER_LENGTH + size as usize {
-                return Written::ROOM;
-            }
-            0
-        }
-        _ => Written::LENGTH,
+    if PayloadLength::new(size).is_err() {
+        return Err(WriteRefusal::Length);
     }
+    if room < HEADER_LENGTH + size as usize {
+        return Err(WriteRefusal::Room);
+    }
+    Ok(())
 }
 
 // Writes the frame of a message whose payload has a length.
@@ -118,21 +129,22 @@ fn put_message(out: &mut [u8], key: u8, given: Given, s: &[u8], tag: u32, size: 
     put_bytes(out, o, b"e")
 }
 
-// Writes a message at the front of a buffer, or refuses and writes nothing.
-pub fn write(key: u8, given: Given, s: &[u8], tag: u32, out: &mut [u8]) -> Written
+// Writes a message at the front of a buffer, or refuses and writes nothing. A tag of 0 is none.
+// Stays: `tag` is a number, since a type that holds tags alone would ask more of callers.
+pub fn write(
+    key: u8,
+    given: Given,
+    s: &[u8],
+    tag: u32,
+    out: &mut [u8],
+) -> Result<usize, WriteRefusal>
     ensures { Leaves (write_answer key given s.now tag (length out.old)) (payload_of key given s.now tag) out.old result out.new }
 {
-    let code = message_fault(key, given, s, tag);
-    if code != 0 {
-        return Written::Refused(code);
-    }
+    message_fault(key, given, s, tag)?;
     let size = (key_length(key)
         + value_length(class_of(key), given, s)
         + tag_length(tag)
         + LIST_ENDS) as u32;
-    let code = length_fault(size, out.len());
-    if code != 0 {
-        return Written::Refused(code);
-    }
-    Written::Count(put_message(out, key, given, s, tag, size))
+    length_fault(size, out.len())?;
+    Ok(put_message(out, key, given, s, tag, size))
 }

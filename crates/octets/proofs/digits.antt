@@ -1,3 +1,4 @@
 pub mod NumeralLaws
+pub mod TensLaws
 pub mod DigitLaws
 pub mod DecimalLaws

@@ -27,26 +27,14 @@ const TENS: [u64; 20] = [
     10000000000000000000,
 ];
 
-// 10 to the power of k.
-fn ten_to(k: usize) -> u64
-    requires { k < 20 }
-    ensures { result ≡ 10 ^ k }
-{
-    TENS[k]
-}
-
-// The number of digits of n's decimal form.
+// The number of digits of n's decimal form: it has one more than the largest power of ten in it has zeros.
 pub fn decimal_length(n: u64) -> usize
     ensures { (result ≡ length (decimal n)) × (result ≤ 20) }
 {
-    let mut k: usize = 1;
-    while k < 20 {
-        if n < ten_to(k) {
-            return k;
-        }
-        k += 1;
-    }
-    k
+    TENS.iter()
+        .position(|p| n < *p)
+        .unwrap_or(TENS.len())
+        .max(1)
 }
 
 // A digit, and what is left below it.
@@ -61,6 +49,7 @@ fn take_digit(n: u64, p: u64) -> Digit
     requires { (0 < p) × (n < 10 * p) }
     ensures { (n ≡ result.digit * p + result.rest) × (result.rest < p) × (result.digit < 10) }
 {
+    // Stays: the source has no division, a rule of the project, so the digit is counted.
     let mut d: u8 = 0;
     let mut rest = n;
     while p <= rest {
@@ -75,12 +64,10 @@ pub fn store_decimal(out: &mut [u8], at: usize, n: u64, count: usize) -> usize
     requires { (count ≡ length (decimal n)) × (count ≤ 20) × (at + count ≤ length out.old) }
     ensures { Wrote out.old at (decimal n) out.new result }
 {
-    let mut k = count;
     let mut o = at;
     let mut rest = n;
-    while 0 < k {
-        k -= 1;
-        let d = take_digit(rest, ten_to(k));
+    for p in TENS[..count].iter().rev() {
+        let d = take_digit(rest, *p);
         out[o] = b'0' + d.digit;
         rest = d.rest;
         o += 1;

@@ -6,7 +6,6 @@ mod bytes;
 mod decimal;
 mod numerals;
 mod put;
-mod store;
 
 pub use bytes::{byte_at, less, same, wide};
 pub use decimal::decimal_length;

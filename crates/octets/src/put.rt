@@ -4,16 +4,12 @@ ghost use Rattle.octets.specs.Numerals.{decimal};
 ghost use Rattle.octets.specs.Put.{Put};
 
 use super::decimal::{decimal_length, store_decimal};
-use super::store::store_bytes;
 
 // Is there no room for n bytes at an offset of a buffer of a size.
 pub fn lacks_room(size: usize, at: usize, n: usize) -> bool
     ensures { result ≡ ltb size (at + n) }
 {
-    if size < at {
-        return true;
-    }
-    size - at < n
+    at.checked_add(n).is_none_or(|end| size < end)
 }
 
 // Puts bytes at an offset, and answers the offset after them.
@@ -23,7 +19,9 @@ pub fn put_bytes(out: &mut [u8], at: usize, src: &[u8]) -> usize
     if lacks_room(out.len(), at, src.len()) {
         return at;
     }
-    store_bytes(out, at, src)
+    let end = at + src.len();
+    out[at..end].copy_from_slice(src);
+    end
 }
 
 // Puts a number in decimal at an offset, and answers the offset after it.

@@ -10,11 +10,7 @@ const ROOM: usize = LONGEST_STRIP + 1;
 
 // Did reading stop before the input's end, where a read answers 0.
 fn read_failed<R: Read>(input: &mut R) -> bool {
-    let mut one = [0u8; 1];
-    match input.read(&mut one) {
-        Ok(n) => n != 0,
-        Err(_) => true,
-    }
+    !matches!(input.read(&mut [0u8; 1]), Ok(0))
 }
 
 fn complain(rt: &HostRuntime, text: &str) {
@@ -27,10 +23,8 @@ fn main(rt: HostRuntime) {
     let Ok(got) = read_full(&mut input, &mut space) else {
         return complain(&rt, "standard input cannot be read");
     };
-    if got < ROOM {
-        if read_failed(&mut input) {
-            return complain(&rt, "standard input cannot be read");
-        }
+    if got < ROOM && read_failed(&mut input) {
+        return complain(&rt, "standard input cannot be read");
     }
     let Ok(()) = strip_run::run_strip(&mut rt.stdout(), &space[..got]) else {
         return complain(&rt, "standard output cannot be written");

@@ -4,75 +4,37 @@
 
 mod sorted;
 
-use bencode::{Profile, Walk};
-use cases::{print, print_number};
+use bencode::{Fault, Profile};
+use cases::{Case, Stop};
 use sorted::print_sorted;
 use std::io;
-use std::io::{Read, Write};
-
-fn print_line<W: Write>(out: &mut W, code: u8, offset: usize) -> io::Result<()> {
-    print_number(out, code as u64)?;
-    print(out, b" ")?;
-    print_number(out, offset as u64)?;
-    print(out, b"\n")
-}
+use std::io::Write;
 
 // 0 and the payload's length, or the fault's code and offset.
-fn print_walk<W: Write>(out: &mut W, walk: Walk) -> io::Result<()> {
+fn print_walk<W: Write>(out: &mut W, walk: Result<usize, Fault>) -> io::Result<()> {
     match walk {
-        Walk::End(end) => print_line(out, 0, end),
-        Walk::Fault(f) => print_line(out, f.code, f.offset),
+        Ok(end) => writeln!(out, "0 {end}"),
+        Err(f) => writeln!(out, "{} {}", f.cause.code(), f.offset),
     }
 }
 
-// Answers a case, or says that its operation is none or its body does not fit.
-fn answer_case<W: Write>(
-    out: &mut W,
-    operation: u8,
-    body: &[u8],
-    room: &mut [u8],
-) -> io::Result<bool> {
-    match operation {
-        b'l' => {
-            print_walk(out, bencode::payload(body, Profile::Loose))?;
-        }
-        b's' => {
-            print_walk(out, bencode::payload(body, Profile::Strict))?;
-        }
-        b'L' => {
-            print_walk(out, bencode::flat::payload(body, Profile::Loose))?;
-        }
-        b'S' => {
-            print_walk(out, bencode::flat::payload(body, Profile::Strict))?;
-        }
-        b'o' => return print_sorted(out, body, room),
-        _ => return Ok(false),
+// Answers a case, in a room for what it sorts.
+fn answer_case<W: Write>(out: &mut W, case: Case<'_>, room: &mut [u8]) -> Result<(), Stop> {
+    let body = case.body;
+    match case.operation {
+        b'l' => print_walk(out, bencode::payload(body, Profile::Loose))?,
+        b's' => print_walk(out, bencode::payload(body, Profile::Strict))?,
+        b'L' => print_walk(out, bencode::flat::payload(body, Profile::Loose))?,
+        b'S' => print_walk(out, bencode::flat::payload(body, Profile::Strict))?,
+        b'o' => print_sorted(out, body, room)?,
+        _ => return Err(Stop::Fault),
     }
-    Ok(true)
-}
-
-// Takes and answers a case, and says whether to go on.
-fn run_case<R: Read, W: Write>(
-    input: &mut R,
-    out: &mut W,
-    body: &mut [u8],
-    room: &mut [u8],
-) -> io::Result<bool> {
-    let taken = cases::take_case(input, body)?;
-    let length = taken.length;
-    let answered = answer_case(out, taken.operation, &body[..length], room)?;
-    cases::go_on(out, taken, answered)
+    Ok(())
 }
 
 fn main(rt: HostRuntime) -> io::Result<()> {
-    let mut input = rt.stdin();
-    let mut out = rt.stdout();
-    let mut body = [0u8; cases::ROOM];
     let mut room = [0u8; cases::ROOM];
-    for _ in 0..cases::MOST {
-        if !run_case(&mut input, &mut out, &mut body, &mut room)? {
-            break;
-        }
-    }
-    Ok(())
+    cases::answer_cases(&mut rt.stdin(), &mut rt.stdout(), |out, case| {
+        answer_case(out, case, &mut room)
+    })
 }

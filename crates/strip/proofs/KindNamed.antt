@@ -8,10 +8,12 @@ use native.Mathlib.Omega.{arith}
 use borrow.Author.Tests.{eqb-true, eqb-false, ltb-true}
 use lib.Dec.{eqb, leb, ltb}
 use lib.ListN.{length}
+use Rattle.std.specs.Prelude.{IfSome}
+use Rattle.std.specs.declared.option.Option.{Option}
+use Rattle.std.specs.declared.option.Option.TheVariants.{None, Some}
 use Rattle.octets.specs.Bytes.{byte_at}
 use Rattle.strip.specs.declared.record.Record.{Record}
-use Rattle.strip.specs.declared.record.Decoded.{Decoded}
-use Rattle.strip.specs.Record.{body_length, may_stand, call_kind, call_of, watch_of, body_at, fault_at, placed_at, end_at, whole_record_at, longest_strip, record_at}
+use Rattle.strip.specs.Record.{body_length, may_stand, call_kind, call_of, watch_of, body_at, Found, FoundBy, placed_at, end_at, whole_record_at, longest_strip, record_at}
 use Rattle.strip.specs.Demands.{HasKind, KindNamed}
 
 -- a test is true or false, and the case has the equation
@@ -51,47 +53,42 @@ module _ (s : List ℕ) (at : ℕ) (kind : ℕ) where
       (λ n3. cases (λ c. kind ≡ call_kind c) (eqb kind 4) (λ e. eqb-true kind 4 e)
       (λ n4. raised kind h (eqb-false kind 0 a) (eqb-false kind 1 n1) (eqb-false kind 2 n2) (eqb-false kind 3 n3) (eqb-false kind 4 n4) (eqb-false kind 6 b)))))
 
-  watch_kind : kind ≡ 7 → HasKind (watch_of s at) kind
+  watch_kind : kind ≡ 7 → IfSome (watch_of s at) (λ r. HasKind r kind)
   unfolding watch_of
-  watch_kind e = cases (λ r. HasKind r kind) (ltb 1 (byte_at s (at + 4))) (λ t. tt) (λ t. e)
+  watch_kind e = cases (λ o. IfSome o (λ r. HasKind r kind)) (ltb 1 (byte_at s (at + 4))) (λ t. tt) (λ t. e)
 
-  body_kind : (first called : Bool) → may_stand first called kind ≡ true → HasKind (body_at kind s at) kind
+  body_kind : (first called : Bool) → may_stand first called kind ≡ true → IfSome (body_at kind s at) (λ r. HasKind r kind)
   unfolding body_at
   body_kind first called m =
-      cases (λ r. HasKind r kind) (eqb kind 0) (λ e. eqb-true kind 0 e)
-      (λ n0. cases (λ r. HasKind r kind) (eqb kind 6) (λ e. eqb-true kind 6 e)
-      (λ n6. cases (λ r. HasKind r kind) (eqb kind 7) (λ e. watch_kind (eqb-true kind 7 e))
+      cases (λ o. IfSome o (λ r. HasKind r kind)) (eqb kind 0) (λ e. eqb-true kind 0 e)
+      (λ n0. cases (λ o. IfSome o (λ r. HasKind r kind)) (eqb kind 6) (λ e. eqb-true kind 6 e)
+      (λ n6. cases (λ o. IfSome o (λ r. HasKind r kind)) (eqb kind 7) (λ e. watch_kind (eqb-true kind 7 e))
       (λ n7. call_kind_lem (allowed first called kind m n0 n7) n0 n6)))
 
 -- ---- what stands at an offset
-placed_kind : (r : Record) (at next k : ℕ) → HasKind r k → HasKind (placed_at r at next).found k
-unfolding fault_at
-placed_kind (Record.Limits d u) at next k h = h
-placed_kind (Record.Watch x m) at next k h = h
-placed_kind (Record.Call c) at next k h = h
-placed_kind Record.Fault at next k h = tt
-placed_kind Record.End at next k h = tt
+abbrev Named : ℕ → Found → Type 0
+Named k found = FoundBy (λ d. HasKind d.found k) found
 
-fault_kind : (at k : ℕ) → HasKind (fault_at at).found k
-unfolding fault_at
-fault_kind at k = tt
+placed_kind : (o : Option Record) (at next k : ℕ) → IfSome o (λ r. HasKind r k) → Named k (placed_at o at next)
+placed_kind None at next k h = tt
+placed_kind (Some r) at next k h = h
 
-end_kind : (at k : ℕ) → HasKind (end_at at).found k
+end_kind : (at k : ℕ) → Named k (end_at at)
 unfolding end_at
-end_kind at k = cases (λ (d : Decoded). HasKind d.found k) (eqb at 0) (λ e. fault_kind 0 k) (λ e. tt)
+end_kind at k = cases (Named k) (eqb at 0) (λ e. tt) (λ e. tt)
 
-whole_kind : (s : List ℕ) (at : ℕ) (called : Bool) → HasKind (whole_record_at s at called).found (byte_at s at)
+whole_kind : (s : List ℕ) (at : ℕ) (called : Bool) → Named (byte_at s at) (whole_record_at s at called)
 unfolding whole_record_at
 whole_kind s at called =
     let kind = byte_at s at in
-    cases (λ (d : Decoded). HasKind d.found kind) (may_stand (eqb at 0) called kind)
-    (λ m. cases (λ (d : Decoded). HasKind d.found kind) (leb (at + 1 + body_length kind) (length s))
+    cases (Named kind) (may_stand (eqb at 0) called kind)
+    (λ m. cases (Named kind) (leb (at + 1 + body_length kind) (length s))
     (λ e. placed_kind (body_at kind s (at + 1)) at (at + 1 + body_length kind) kind (body_kind s (at + 1) kind (eqb at 0) called m))
-    (λ e. fault_kind at kind))
-    (λ m. fault_kind at kind)
+    (λ e. tt))
+    (λ m. tt)
 
 pub kind_named : KindNamed
 unfolding record_at
 kind_named s at called =
-    let P : Decoded → Type 0 = λ d. HasKind d.found (byte_at s at) in
-    cases P (leb (length s) longest_strip) (λ e. cases P (leb (length s) at) (λ f. end_kind at (byte_at s at)) (λ f. whole_kind s at called)) (λ e. fault_kind longest_strip (byte_at s at))
+    let P : Found → Type 0 = Named (byte_at s at) in
+    cases P (leb (length s) longest_strip) (λ e. cases P (leb (length s) at) (λ f. end_kind at (byte_at s at)) (λ f. whole_kind s at called)) (λ e. tt)

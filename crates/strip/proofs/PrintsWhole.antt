@@ -9,23 +9,23 @@ use native.Mathlib.Nat.{not-suc-le-zero}
 use lib.Dec.{eqb}
 use lib.ListN.{length, drop}
 use lib.Seq.{take-append_seam}
+use Rattle.std.specs.declared.option.Option.TheVariants.{None, Some}
+use Rattle.std.specs.declared.result.Result.TheVariants.{Ok, Err}
 use Rattle.desk.specs.declared.watch.Watch.{Watch}
 use Rattle.desk.specs.declared.call.Call.{Call}
-use Rattle.desk.specs.declared.done.Opened.{Opened}
-use Rattle.desk.specs.Opening.{opening}
+use Rattle.desk.specs.Opening.{Opening, opening}
 use Rattle.strip.specs.declared.record.Record.{Record}
-use Rattle.strip.specs.declared.record.Decoded.{Decoded}
 use Rattle.strip.specs.declared.run.Run.{Run}
 use Rattle.strip.specs.declared.run.Step.{Step}
-use Rattle.strip.specs.Record.{call_kind, record_at}
+use Rattle.strip.specs.Record.{Found, FoundBy, call_kind, record_at}
 use Rattle.strip.specs.Answer.{answer}
 use Rattle.strip.specs.Line.{open_text, fault_text, call_text, blank, output_of, output_bytes}
-use Rattle.strip.specs.Printed.{Records, call, end, followed, records_from, records_of, printed_open, printed_opening, printed_from, printed}
-use Rattle.strip.specs.Run.{begun, with_limits, with_watch, with_desk, ended, printing, silent, opened, performed, faulted, taken, stepped, printed_by}
+use Rattle.strip.specs.Printed.{Records, call, end, followed_by, followed, records_from, records_of, printed_open, printed_opening, printed_from, printed}
+use Rattle.strip.specs.Run.{begun, with_limits, with_watch, with_desk, ended, printing, silent, opened, performed, faulted, taken, met, stepped, printed_by}
 use Rattle.strip.specs.Demands.{PrintsWhole}
 use Rattle.strip.proofs.records.GatherLaws.{Gathers, gathers_none, gathers_more, gathers_opening}
 use Rattle.strip.proofs.running.RunLaws.{call_open, call_shut, end_open, end_shut, opened_is}
-use Rattle.strip.proofs.records.Forward.{Forward, forward, Meets, again}
+use Rattle.strip.proofs.records.Forward.{Forward, forward, IsCall, Meets, again}
 use Rattle.strip.proofs.running.StepsLeft.{steps_left, some_left, step_falls, over_after}
 
 -- ---- what steps print
@@ -54,9 +54,9 @@ the_same : (n : ℕ) (s t : List ℕ) (x y : Step) → x ≡ y → (steps_left s
 the_same n s t x y e f = subst (λ (z : Step). steps_left s z.run ≤ n → Printing n s z t) (sym e) f
 
 -- a step of a run before any call, or after one
-stepped_at : (s : List ℕ) (r : Run) (b : Bool) → r.called ≡ b → stepped s r ≡ (let d = record_at s r.at b in taken d.found d.offset r)
+stepped_at : (s : List ℕ) (r : Run) (b : Bool) → r.called ≡ b → stepped s r ≡ met (record_at s r.at b) r
 unfolding stepped
-stepped_at s r b e = ap (λ (c : Bool). let d = record_at s r.at c in taken d.found d.offset r) e
+stepped_at s r b e = ap (λ (c : Bool). met (record_at s r.at c) r) e
 
 -- ---- on the open desk
 -- a run on the open desk, with so many steps and records left, prints what its desk does for the records from its offset on
@@ -77,22 +77,25 @@ module _ (m n : ℕ) (s : List ℕ) (on : Opens m n s) (r : Run) (called : r.cal
   unfolding silent ended
   open_end left = printing_then n s [] [] (ended r) (printed_over n s (ended r) refl)
 
-  open_taken : (found : Record) (next : ℕ) → Forward s r.at found next → steps_left s (taken found next r).run ≤ n
-      → Printing n s (taken found next r) (printed_open r.desk (followed found next true (λ k after. records_from m s k after)))
-  unfolding printed_open silent with_limits with_watch faulted ended
+  abbrev open_rest : ℕ → Bool → Records
+  open_rest k after = records_from m s k after
+
+  open_taken : (found : Record) (next : ℕ) → (r.at < next) × (next ≤ length s) → steps_left s (taken found next r).run ≤ n
+      → Printing n s (taken found next r) (printed_open r.desk (followed_by found next true open_rest))
+  unfolding printed_open silent with_limits with_watch
   open_taken (Record.Limits d u) next (l, h) left = printing_then n s [] _ (with_limits d u next r) (on (with_limits d u next r) called over (omega (arith, l, h, few)) left)
-  open_taken (Record.Watch x k) next (l, h) left =
-      let w : Watch = record { id = x; running = k } in
-      printing_then n s [] _ (with_watch w next r) (on (with_watch w next r) called over (omega (arith, l, h, few)) left)
+  open_taken (Record.Watch w) next (l, h) left = printing_then n s [] _ (with_watch w next r) (on (with_watch w next r) called over (omega (arith, l, h, few)) left)
   open_taken (Record.Call c) next lh left = the_same n s _ _ _ (call_open r c next called) (open_call c next lh) left
-  open_taken Record.Fault next f left = printing_then n s (fault_text next) [] (ended r) (printed_over n s (ended r) refl) ∙ append-nil (fault_text next)
-  open_taken Record.End next f left = the_same n s _ _ _ (end_open r called) open_end left
+
+  open_met : (found : Found) → FoundBy (Forward s r.at) found → steps_left s (met found r).run ≤ n → Printing n s (met found r) (printed_open r.desk (followed found true open_rest))
+  unfolding printed_open faulted ended
+  open_met (Ok (Some d)) f left = open_taken d.found d.offset f left
+  open_met (Ok None) f left = the_same n s _ _ _ (end_open r called) open_end left
+  open_met (Err at) f left = printing_then n s (fault_text at) [] (ended r) (printed_over n s (ended r) refl) ∙ append-nil (fault_text at)
 
   open_step : steps_left s (stepped s r).run ≤ n → Printing n s (stepped s r) (printed_open r.desk (records_from (suc m) s r.at true))
   unfolding records_from
-  open_step left =
-      let d = record_at s r.at true in
-      the_same n s _ _ _ (stepped_at s r true called) (open_taken d.found d.offset (forward s r.at true)) left
+  open_step left = the_same n s _ _ _ (stepped_at s r true called) (open_met (record_at s r.at true) (forward s r.at true)) left
 
 open_prints : (m n : ℕ) (s : List ℕ) → Opens m n s
 open_prints zero n s r called over few left = absurd (not-suc-le-zero few)
@@ -106,10 +109,10 @@ Reads m n s = (r : Run) (ws : List Watch) → r.called ≡ false → r.over ≡ 
     → printed_by n s r ≡ printed_from r.down r.up ws (records_from m s r.at false)
 
 -- an opening, and what follows unless it is a refusal
-abbrev after_opening : Run → Opened → Run
+abbrev after_opening : Run → Opening → Run
 after_opening r o = with_desk o.desk (not (eqb o.code 0)) r.at r
 
-opening_follows : (m n : ℕ) (s : List ℕ) (r : Run) (o : Opened) → length s - r.at < suc m → steps_left s (after_opening r o) ≤ n
+opening_follows : (m n : ℕ) (s : List ℕ) (r : Run) (o : Opening) → length s - r.at < suc m → steps_left s (after_opening r o) ≤ n
     → printed_by n s (after_opening r o) ≡ cond (eqb o.code 0) (printed_open o.desk (records_from (suc m) s r.at true)) []
 unfolding with_desk
 opening_follows m n s r o few left = by_test (eqb o.code 0) refl
@@ -135,26 +138,28 @@ module _ (m n : ℕ) (s : List ℕ) (on : Reads m n s) (r : Run) (ws : List Watc
   abbrev rest : ℕ → Bool → Records
   rest k after = records_from m s k after
 
-  read_taken : (found : Record) (next : ℕ) → Forward s r.at found next → (Meets found → records_from (suc m) s r.at true ≡ followed found next true rest)
-      → steps_left s (taken found next r).run ≤ n → Printing n s (taken found next r) (printed_from r.down r.up ws (followed found next false rest))
-  unfolding printed_from silent with_limits with_watch faulted ended
-  read_taken (Record.Limits d u) next (l, h) met left = printing_then n s [] _ (with_limits d u next r) (on (with_limits d u next r) ws called over g (omega (arith, l, h, few)) left)
-  read_taken (Record.Watch x k) next (l, h) met left =
-      let w : Watch = record { id = x; running = k } in
+  read_taken : (found : Record) (next : ℕ) → (r.at < next) × (next ≤ length s) → (IsCall found → records_from (suc m) s r.at true ≡ followed_by found next true rest)
+      → steps_left s (taken found next r).run ≤ n → Printing n s (taken found next r) (printed_from r.down r.up ws (followed_by found next false rest))
+  unfolding printed_from silent with_limits with_watch
+  read_taken (Record.Limits d u) next (l, h) again left = printing_then n s [] _ (with_limits d u next r) (on (with_limits d u next r) ws called over g (omega (arith, l, h, few)) left)
+  read_taken (Record.Watch w) next (l, h) again left =
       printing_then n s [] _ (with_watch w next r) (on (with_watch w next r) (ws ++ (w ∷ [])) called over (gathers_more r.gathered ws w g) (omega (arith, l, h, few)) left)
-  read_taken (Record.Call c) next lh met left = the_same n s _ _ _ (call_shut r c next called) (opened_prints m n s r ws (call c (rest next true)) few g (met tt)) left
-  read_taken Record.Fault next f met left = printing_then n s (fault_text next) [] (ended r) (printed_over n s (ended r) refl) ∙ append-nil (fault_text next)
-  read_taken Record.End next f met left = the_same n s _ _ _ (end_shut r called) (opened_prints m n s r ws end few g (met tt)) left
+  read_taken (Record.Call c) next lh again left = the_same n s _ _ _ (call_shut r c next called) (opened_prints m n s r ws (call c (rest next true)) few g (again tt)) left
 
-  met_again : let d = record_at s r.at false in Meets d.found → records_from (suc m) s r.at true ≡ followed d.found d.offset true rest
+  read_met : (found : Found) → FoundBy (Forward s r.at) found → (Meets found → records_from (suc m) s r.at true ≡ followed found true rest)
+      → steps_left s (met found r).run ≤ n → Printing n s (met found r) (printed_from r.down r.up ws (followed found false rest))
+  unfolding printed_from faulted ended
+  read_met (Ok (Some d)) f again left = read_taken d.found d.offset f again left
+  read_met (Ok None) f again left = the_same n s _ _ _ (end_shut r called) (opened_prints m n s r ws end few g (again tt)) left
+  read_met (Err at) f again left = printing_then n s (fault_text at) [] (ended r) (printed_over n s (ended r) refl) ∙ append-nil (fault_text at)
+
+  met_again : Meets (record_at s r.at false) → records_from (suc m) s r.at true ≡ followed (record_at s r.at false) true rest
   unfolding records_from
-  met_again k = ap (λ (d : Decoded). followed d.found d.offset true rest) (again s r.at k)
+  met_again k = ap (λ (found : Found). followed found true rest) (again s r.at k)
 
   read_step : steps_left s (stepped s r).run ≤ n → Printing n s (stepped s r) (printed_from r.down r.up ws (records_from (suc m) s r.at false))
   unfolding records_from
-  read_step left =
-      let d = record_at s r.at false in
-      the_same n s _ _ _ (stepped_at s r false called) (read_taken d.found d.offset (forward s r.at false) met_again) left
+  read_step left = the_same n s _ _ _ (stepped_at s r false called) (read_met (record_at s r.at false) (forward s r.at false) met_again) left
 
 read_prints : (m n : ℕ) (s : List ℕ) → Reads m n s
 read_prints zero n s r ws called over g few left = absurd (not-suc-le-zero few)

@@ -1,12 +1,14 @@
 -- To be believed. What override-desk prints for a strip (document 01, 'The strip and its program').
 -- Assumes nothing.
 use Rattle.std.specs.Prelude.{ℕ, zero, suc, Bool, true, false, cond, List, [], ◌∷◌, ◌++◌, eqb, ℤ, pos, length}
+use Rattle.std.specs.declared.option.Option.TheVariants.{None, Some}
+use Rattle.std.specs.declared.result.Result.TheVariants.{Ok, Err}
 use Rattle.desk.specs.declared.watch.Watch.{Watch}
 use Rattle.desk.specs.declared.call.Call.{Call}
 use Rattle.desk.specs.declared.record.Desk.{Desk}
 use Rattle.desk.specs.Opening.{opening}
 use Rattle.strip.specs.declared.record.Record.{Record}
-use Rattle.strip.specs.Record.{call_kind, record_at}
+use Rattle.strip.specs.Record.{Found, call_kind, record_at}
 use Rattle.strip.specs.Answer.{answer}
 use Rattle.strip.specs.Line.{open_text, fault_text, call_text}
 
@@ -18,20 +20,22 @@ pub data Records : Type 0 where
   fault : ℕ → Records
   end : Records
 
--- what stands at an offset, and the records from there on, after a call or before any
-abbrev pub followed : Record → ℕ → Bool → (ℕ → Bool → Records) → Records
-followed (Record.Limits down up) next called rest = limits down up (rest next called)
-followed (Record.Watch x mark) next called rest = watch (record { id = x; running = mark }) (rest next called)
-followed (Record.Call c) next called rest = call c (rest next true)
-followed Record.Fault at called rest = fault at
-followed Record.End at called rest = end
+-- a record, and the records from the offset after it on, after a call or before any
+abbrev pub followed_by : Record → ℕ → Bool → (ℕ → Bool → Records) → Records
+followed_by (Record.Limits down up) next called rest = limits down up (rest next called)
+followed_by (Record.Watch w) next called rest = watch w (rest next called)
+followed_by (Record.Call c) next called rest = call c (rest next true)
+
+-- what stands at an offset, and the records from there on
+abbrev pub followed : Found → Bool → (ℕ → Bool → Records) → Records
+followed (Ok (Some d)) called rest = followed_by d.found d.offset called rest
+followed (Ok None) called rest = end
+followed (Err at) called rest = fault at
 
 -- the records from an offset on, at most so many
 unfoldable pub records_from : ℕ → List ℕ → ℕ → Bool → Records
 records_from zero s at called = end
-records_from (suc n) s at called =
-    let r = record_at s at called in
-    followed r.found r.offset called (λ next after. records_from n s next after)
+records_from (suc n) s at called = followed (record_at s at called) called (λ next after. records_from n s next after)
 
 -- a record has a byte at least: there are no more than the strip has bytes, and then its end (that they suffice,
 -- `PrintsWhole` says too)

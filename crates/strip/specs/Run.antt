@@ -1,6 +1,8 @@
 -- Pinned by `PrintsWhole`. A run by steps.
 -- Assumes nothing.
 use Rattle.std.specs.Prelude.{ℕ, zero, suc, Bool, true, false, cond, not, List, [], ◌++◌, eqb, ℤ, pos, take}
+use Rattle.std.specs.declared.option.Option.TheVariants.{None, Some}
+use Rattle.std.specs.declared.result.Result.TheVariants.{Ok, Err}
 use Rattle.desk.specs.declared.watch.Watch.{Watch}
 use Rattle.desk.specs.declared.call.Call.{Call}
 use Rattle.desk.specs.declared.record.Desk.{Desk}
@@ -9,7 +11,7 @@ use Rattle.desk.specs.Opening.{opening}
 use Rattle.strip.specs.declared.record.Record.{Record}
 use Rattle.strip.specs.declared.run.Run.{Run}
 use Rattle.strip.specs.declared.run.Step.{Step}
-use Rattle.strip.specs.Record.{call_kind, record_at}
+use Rattle.strip.specs.Record.{Found, call_kind, record_at}
 use Rattle.strip.specs.Gather.{nothing_gathered, gathered}
 use Rattle.strip.specs.Answer.{answer}
 use Rattle.strip.specs.Line.{open_text, fault_text, call_text, output_of, output_bytes}
@@ -73,13 +75,17 @@ faulted at r = printing (fault_text at) (ended r)
 
 abbrev pub taken : Record → ℕ → Run → Step
 taken (Record.Limits down up) next r = silent (with_limits down up next r)
-taken (Record.Watch x mark) next r = silent (with_watch (record { id = x; running = mark }) next r)
+taken (Record.Watch w) next r = silent (with_watch w next r)
 taken (Record.Call c) next r = call_taken c next r
-taken Record.Fault at r = faulted at r
-taken Record.End at r = end_taken r
+
+-- what stands at an offset
+abbrev pub met : Found → Run → Step
+met (Ok (Some d)) r = taken d.found d.offset r
+met (Ok None) r = end_taken r
+met (Err at) r = faulted at r
 
 unfoldable pub stepped : List ℕ → Run → Step
-stepped s r = let d = record_at s r.at r.called in taken d.found d.offset r
+stepped s r = met (record_at s r.at r.called) r
 
 -- ---- steps, until the run is over: what they print, and the run after them
 unfoldable pub printed_by : ℕ → List ℕ → Run → List ℕ

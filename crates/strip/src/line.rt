@@ -1,4 +1,5 @@
 // The lines that a run of a strip prints.
+// Stays: put by octets and not by Display, which divides by ten.
 ghost use Rattle.std.specs.Prelude.{◌≡◌, ◌+◌, ◌≤◌, [], length};
 ghost use Rattle.octets.specs.Put.{Wrote};
 ghost use Rattle.desk.specs.Command.{longest_frames};
@@ -47,7 +48,7 @@ fn put_frames(out: &mut [u8], at: usize, frames: &[u8]) -> usize
     requires { at + length (frames_text frames.now) ≤ length out.old }
     ensures { Wrote out.old at (frames_text frames.now) out.new result }
 {
-    if frames.len() == 0 {
+    if frames.is_empty() {
         return at;
     }
     let o = put_bytes(out, at, frames);

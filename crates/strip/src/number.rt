@@ -1,37 +1,20 @@
 // Numbers of a strip: four bytes, the lowest first.
-ghost use Rattle.std.specs.Prelude.{◌≡◌, ◌+◌, ◌≤◌, ◌<◌, length};
-ghost use Rattle.std.specs.Int.Signed.{mag};
-ghost use Rattle.strip.specs.Number.{number_at, twos_complement, limit_at};
-
-use octets::byte_at;
+ghost use Rattle.std.specs.Prelude.{◌≡◌, ◌+◌, ◌≤◌, length};
+ghost use Rattle.strip.specs.Number.{number_at, limit_at};
 
 // The number at an offset.
+#[tactic(auto, unfolding(crate::specs::Number::number_at))]
 pub fn number_at(s: &[u8], at: usize) -> u32
     requires { at + 4 ≤ length s.now }
     ensures { result ≡ number_at s.now at }
 {
-    let a = byte_at(s, at) as u32;
-    let b = byte_at(s, at + 1) as u32;
-    let c = byte_at(s, at + 2) as u32;
-    let d = byte_at(s, at + 3) as u32;
-    a + b * 256 + c * 65536 + d * 16777216
+    u32::from_le_bytes([s[at], s[at + 1], s[at + 2], s[at + 3]])
 }
 
-// A number in two's complement.
-fn from_bits(n: u32) -> i32
-    ensures { (result ≡ twos_complement n) × (mag result < 2147483648) }
-{
-    if n < 2147483648 {
-        return n as i32;
-    }
-    let below = (4294967295 - n) as i32;
-    -1 - below
-}
-
-// The limit at an offset.
+// The limit at an offset, in two's complement.
 pub fn limit_at(s: &[u8], at: usize) -> i32
     requires { at + 4 ≤ length s.now }
-    ensures { (result ≡ limit_at s.now at) × (mag result < 2147483648) }
+    ensures { result ≡ limit_at s.now at }
 {
-    from_bits(number_at(s, at))
+    number_at(s, at).cast_signed()
 }

@@ -1,187 +1,180 @@
 // The records of a strip.
-ghost use Rattle.std.specs.Prelude.{◌≡◌, ◌+◌, ◌≤◌, ◌<◌, length};
-ghost use Rattle.strip.specs.Record.{body_length, may_stand, call_of, call_kind, watch_of, body_at, fault_at, placed_at, end_at, whole_record_at, record_at};
+ghost use Rattle.std.specs.Prelude.{◌≡◌, ◌+◌, ◌≤◌, ◌<◌, length, MatchResult};
+ghost use Rattle.strip.specs.Record.{kind_number, body_length, may_stand, call_of, call_kind, watch_of, body_at, end_at, whole_record_at, record_at};
 
 use super::number::{limit_at, number_at};
-use desk::Call;
-use octets::byte_at;
+use desk::{Call, Watch};
 
-// What stands at an offset of a strip: a record, a fault or the strip's end.
+// A record of a strip.
 #[derive(Clone, Copy)]
 pub enum Record {
     Limits { down: i32, up: i32 },
-    Watch { id: u32, running: bool },
+    Watch(Watch),
     Call(Call),
-    Fault,
-    End,
 }
 
-// A record and the offset after it. A fault's offset is its record's own.
+// A record and the offset after it.
 #[derive(Clone, Copy)]
 pub struct Decoded {
     pub found: Record,
     pub offset: usize,
 }
 
-// The kinds of limits, of a clear and of a watch record; those between are the calls with a body.
-const LIMITS: u8 = 0;
+// The kinds of records, by their numbers from 0 on.
+#[derive(Clone, Copy)]
+enum Kind {
+    Limits,
+    Down,
+    Up,
+    Start,
+    Stop,
+    Raise,
+    Clear,
+    Watch,
+}
 
-const CLEAR: u8 = 6;
+// A number that no kind has.
+#[derive(Clone, Copy)]
+struct NoKind;
 
-const WATCH: u8 = 7;
+impl TryFrom<u8> for Kind {
+    type Error = NoKind;
+
+    ghost try_from_gives = { λ number r. MatchResult r (λ kind. kind_number kind ≡ number) (λ e. 7 < number) };
+
+    fn try_from(number: u8) -> Result<Kind, NoKind> {
+        match number {
+            0 => Ok(Kind::Limits),
+            1 => Ok(Kind::Down),
+            2 => Ok(Kind::Up),
+            3 => Ok(Kind::Start),
+            4 => Ok(Kind::Stop),
+            5 => Ok(Kind::Raise),
+            6 => Ok(Kind::Clear),
+            7 => Ok(Kind::Watch),
+            _ => Err(NoKind),
+        }
+    }
+}
 
 // How many bytes a strip may have.
 pub const LONGEST_STRIP: usize = 16384;
 
-// How long the body of a kind is.
-fn body_length(kind: u8) -> usize
-    ensures { (result ≡ body_length kind) × (result ≤ 8) }
-{
-    if kind == LIMITS {
-        return 8;
+#[tactic(auto, unfolding(crate::specs::Record::body_length, crate::specs::Record::may_stand, crate::specs::Record::body_at, crate::specs::Record::call_of))]
+impl Kind {
+    // How long its body is.
+    fn body_length(self) -> usize
+        ensures { (result ≡ body_length (kind_number self)) × (result ≤ 8) }
+    {
+        match self {
+            Kind::Limits => 8,
+            Kind::Clear => 0,
+            Kind::Watch => 5,
+            Kind::Down | Kind::Up | Kind::Start | Kind::Stop | Kind::Raise => 4,
+        }
     }
-    if kind == CLEAR {
-        return 0;
+
+    // May a record of it stand, as the first one or not, after a call or before any.
+    fn may_stand(self, first: bool, called: bool) -> bool
+        ensures { result ≡ may_stand first called (kind_number self) }
+    {
+        match self {
+            Kind::Limits => first,
+            Kind::Watch => !first && !called,
+            _ => !first,
+        }
     }
-    if kind == WATCH { 5 } else { 4 }
+
+    // The record of it whose body starts at an offset and is all there, or none where a watch record's mark is over 1.
+    fn body_at(self, s: &[u8], at: usize) -> Option<Record>
+        requires { at + body_length (kind_number self) ≤ length s.now }
+        ensures { result ≡ body_at (kind_number self) s.now at }
+    {
+        let call = match self {
+            Kind::Limits => {
+                let down = limit_at(s, at);
+                let up = limit_at(s, at + 4);
+                return Some(Record::Limits { down, up });
+            }
+            Kind::Watch => return watch_at(s, at),
+            Kind::Down => Call::Down(limit_at(s, at)),
+            Kind::Up => Call::Up(limit_at(s, at)),
+            Kind::Start => Call::Start(number_at(s, at)),
+            Kind::Stop => Call::Stop(number_at(s, at)),
+            Kind::Raise => Call::Raise(number_at(s, at)),
+            Kind::Clear => Call::Clear,
+        };
+        Some(Record::Call(call))
+    }
 }
 
-// May a record of a kind stand, as the first one or not, after a call or before any.
-fn may_stand(first: bool, called: bool, kind: u8) -> bool
-    ensures { result ≡ may_stand first called kind }
-{
-    if first {
-        return kind == LIMITS;
-    }
-    if kind == LIMITS {
-        return false;
-    }
-    if kind == WATCH {
-        return !called;
-    }
-    kind < WATCH
-}
-
-// The call of a kind, whose body starts at an offset.
-fn call_at(s: &[u8], kind: u8, at: usize) -> Call
-    requires { at + 4 ≤ length s.now }
-    ensures { result ≡ call_of kind s.now at }
-{
-    match kind {
-        1 => Call::Down(limit_at(s, at)),
-        2 => Call::Up(limit_at(s, at)),
-        3 => Call::Start(number_at(s, at)),
-        4 => Call::Stop(number_at(s, at)),
-        _ => Call::Raise(number_at(s, at)),
-    }
-}
-
-// The kind of a call.
+// The kind of a call, as a number.
 pub fn call_kind(call: Call) -> u8
     ensures { result ≡ call_kind call }
 {
-    match call {
-        Call::Down(_) => 1,
-        Call::Up(_) => 2,
-        Call::Start(_) => 3,
-        Call::Stop(_) => 4,
-        Call::Raise(_) => 5,
-        Call::Clear => CLEAR,
-    }
+    let kind = match call {
+        Call::Down(_) => Kind::Down,
+        Call::Up(_) => Kind::Up,
+        Call::Start(_) => Kind::Start,
+        Call::Stop(_) => Kind::Stop,
+        Call::Raise(_) => Kind::Raise,
+        Call::Clear => Kind::Clear,
+    };
+    kind as u8
 }
 
 // A watch record whose mark is 0 or 1.
-fn watch_at(s: &[u8], at: usize) -> Record
+#[tactic(auto, unfolding(crate::specs::Record::watch_of))]
+fn watch_at(s: &[u8], at: usize) -> Option<Record>
     requires { at + 5 ≤ length s.now }
     ensures { result ≡ watch_of s.now at }
 {
     let id = number_at(s, at);
-    let mark = byte_at(s, at + 4);
-    if 1 < mark {
-        return Record::Fault;
-    }
-    Record::Watch {
-        id,
-        running: mark == 1,
-    }
-}
-
-// The record of a kind, whose body starts at an offset and is all there.
-fn body_at(s: &[u8], kind: u8, at: usize) -> Record
-    requires { at + body_length kind ≤ length s.now }
-    ensures { result ≡ body_at kind s.now at }
-{
-    if kind == LIMITS {
-        let down = limit_at(s, at);
-        let up = limit_at(s, at + 4);
-        return Record::Limits { down, up };
-    }
-    if kind == CLEAR {
-        return Record::Call(Call::Clear);
-    }
-    if kind == WATCH {
-        return watch_at(s, at);
-    }
-    Record::Call(call_at(s, kind, at))
-}
-
-fn fault_at(at: usize) -> Decoded
-    ensures { result ≡ fault_at at }
-{
-    Decoded {
-        found: Record::Fault,
-        offset: at,
-    }
-}
-
-// A record that starts at an offset, with the offset after it.
-fn placed(found: Record, at: usize, after: usize) -> Decoded
-    ensures { result ≡ placed_at found at after }
-{
-    match found {
-        Record::Fault => fault_at(at),
-        _ => Decoded {
-            found,
-            offset: after,
-        },
+    match s[at + 4] {
+        0 => Some(Record::Watch(Watch { id, running: false })),
+        1 => Some(Record::Watch(Watch { id, running: true })),
+        _ => None,
     }
 }
 
 // What stands past the last record: an empty strip has not even the first.
-fn end_at(at: usize) -> Decoded
+#[tactic(auto, unfolding(crate::specs::Record::end_at))]
+fn end_at(at: usize) -> Result<Option<Decoded>, usize>
     ensures { result ≡ end_at at }
 {
-    if at == 0 {
-        return fault_at(0);
-    }
-    Decoded {
-        found: Record::End,
-        offset: at,
-    }
+    if at == 0 { Err(0) } else { Ok(None) }
 }
 
-// What stands at an offset within a strip.
-fn whole_record_at(s: &[u8], at: usize, called: bool) -> Decoded
+// The record at an offset within a strip; an error is the offset.
+#[tactic(auto, unfolding(crate::specs::Record::whole_record_at, crate::specs::Record::may_stand))]
+fn whole_record_at(s: &[u8], at: usize, called: bool) -> Result<Option<Decoded>, usize>
     requires { at < length s.now }
     ensures { result ≡ whole_record_at s.now at called }
 {
-    let kind = byte_at(s, at);
-    if !may_stand(at == 0, called, kind) {
-        return fault_at(at);
+    let Ok(kind) = Kind::try_from(s[at]) else {
+        return Err(at);
+    };
+    if !kind.may_stand(at == 0, called) {
+        return Err(at);
     }
-    let body = body_length(kind);
+    let body = kind.body_length();
     if s.len() - at <= body {
-        return fault_at(at);
+        return Err(at);
     }
-    placed(body_at(s, kind, at + 1), at, at + 1 + body)
+    let found = kind.body_at(s, at + 1).ok_or(at)?;
+    Ok(Some(Decoded {
+        found,
+        offset: at + 1 + body,
+    }))
 }
 
-// What stands at an offset of a strip, after a call or before any.
-pub fn record_at(s: &[u8], at: usize, called: bool) -> Decoded
+// The record at an offset of a strip, after a call or before any, or none at the strip's end; an error is the offset of the fault.
+#[tactic(auto, unfolding(crate::specs::Record::record_at))]
+pub fn record_at(s: &[u8], at: usize, called: bool) -> Result<Option<Decoded>, usize>
     ensures { result ≡ record_at s.now at called }
 {
     if LONGEST_STRIP < s.len() {
-        return fault_at(LONGEST_STRIP);
+        return Err(LONGEST_STRIP);
     }
     if s.len() <= at {
         return end_at(at);

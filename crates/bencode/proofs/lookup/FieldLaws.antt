@@ -1,36 +1,36 @@
 -- Laws of fields, one for each way through their code.
 -- Assumes nothing.
 use Prim.Native.Nat.{ℕ, ◌+◌}
-use mathlib.Core.Path.{◌≡◌, refl, ap}
+use mathlib.Core.Path.{◌≡◌, refl, ap, ◌∙◌}
 use mathlib.Core.Bool.{Bool, true, false, cond}
 use mathlib.Core.List.{List, [], ◌∷◌}
 use native.Mathlib.Omega.{arith}
 use borrow.Author.Tests.{eq-eqb, ne_eqb}
 use lib.Dec.{eqb}
-use denote.Enum.Declared.{tag_of}
-use types.Run.{OneOf, miss}
 use lib.IntN.{ℤ}
-use Rattle.bencode.specs.declared.entry.Entry.{Entry}
+use mir.Syntax.{w64}
+use mir.Val.{SFits}
 use Rattle.bencode.specs.declared.field.Field.{Field}
 use Rattle.bencode.specs.declared.integers.Number.{Number}
 use Rattle.bencode.specs.declared.strings.Text.{Text}
 use Rattle.octets.specs.Bytes.{byte_at}
 use Rattle.bencode.specs.Strings.{string_at}
-use Rattle.bencode.specs.Integers.{integer_at}
+use Rattle.bencode.specs.Integers.{integer_at, number_of}
 use Rattle.bencode.specs.Entry.{entry_at}
-use Rattle.bencode.specs.Field.{number_field, text_field, field_at, entry_field, field_of, if_integer}
-use Rattle.bencode.specs.contracts.field.Field.{the_type}
+use Rattle.bencode.specs.Field.{number_field, text_field, field_at, entry_field, field_of, integer_in, if_integer}
 use Rattle.bencode.proofs.walking.Ends.{integer_fits_lem, integer_ends}
 use Rattle.bencode.specs.Loop.{Past}
 use Rattle.bencode.proofs.lookup.EntryLaws.{find_past}
 use Rattle.bencode.proofs.scalars.Ranges.{machine, same}
+use Rattle.std.specs.Prelude.{Result, Ok, Err, Option, Some, None}
+use Rattle.bencode.specs.declared.fault.Fault.{Fault}
 
 module _ (s : List ℕ) (at : ℕ) where
-  pub field_list : byte_at s at ≡ 108 → field_at s at ≡ Field.List (at + 1)
+  pub field_list : byte_at s at ≡ 108 → field_at s at ≡ Some (Field.List (at + 1))
   unfolding field_at
   field_list e = rw (eq-eqb (byte_at s at) 108 e) refl
 
-  pub field_dictionary : byte_at s at ≡ 100 → field_at s at ≡ Field.Dictionary (at + 1)
+  pub field_dictionary : byte_at s at ≡ 100 → field_at s at ≡ Some (Field.Dictionary (at + 1))
   unfolding field_at
   field_dictionary e = rw (ne_eqb (byte_at s at) 108 (λ q. omega arith), eq-eqb (byte_at s at) 100 e) refl
 
@@ -43,46 +43,69 @@ module _ (s : List ℕ) (at : ℕ) where
   field_text l d i = rw (ne_eqb (byte_at s at) 108 l, ne_eqb (byte_at s at) 100 d, ne_eqb (byte_at s at) 105 i) refl
 
 -- an integer that is read, as the machine has it
-pub field_number : (s : List ℕ) (at : ℕ) (z : ℤ) (end : ℕ) → integer_at s at ≡ Number.Integer z end → Field.Integer (machine z) end ≡ number_field (integer_at s at)
+pub field_number : (s : List ℕ) (at : ℕ) (z : ℤ) (end : ℕ) → integer_at s at ≡ Ok (number_of z end) → Some (Field.Integer (machine z) end) ≡ number_field (integer_at s at)
 field_number s at z end e = rw (same z (integer_fits_lem s at z end e), e) refl
 
-pub field_entry : (s key : List ℕ) (from : ℕ) (e : Entry) → entry_at s key from ≡ e → field_of s key from ≡ entry_field s e
+pub field_entry : (s key : List ℕ) (from : ℕ) (e : Option ℕ) → entry_at s key from ≡ e → field_of s key from ≡ entry_field s e
 unfolding field_of
 field_entry s key from e q = ap (entry_field s) q
 
--- a key's integer ends after the search's start, in the payload
-pub field_ends : (s key : List ℕ) (from : ℕ) (z : ℤ) (end : ℕ) → field_of s key from ≡ Field.Integer z end → Past s from end
+-- a field whose integer is told, and one that is none
+abbrev integer_back : Field → Option Number → Field
+integer_back f (Some n) = Field.Integer n.value n.end
+integer_back f None = f
+
+pub field_is : (f : Field) (n : Number) → integer_in f ≡ Some n → f ≡ Field.Integer n.value n.end
+field_is (Field.Integer z end) n e = ap (integer_back (Field.Integer z end)) e
+field_is (Field.Text start end) n e = ap (integer_back (Field.Text start end)) e
+field_is (Field.List at) n e = ap (integer_back (Field.List at)) e
+field_is (Field.Dictionary at) n e = ap (integer_back (Field.Dictionary at)) e
+
+-- a key's integer is read where the key's value is
+abbrev number_back : Option Field → Result Number Fault → Result Number Fault
+number_back (Some (Field.Integer z end)) other = Ok (number_of z end)
+number_back (Some (Field.Text start end)) other = other
+number_back (Some (Field.List at)) other = other
+number_back (Some (Field.Dictionary at)) other = other
+number_back None other = other
+
+pub field_read : (s key : List ℕ) (from : ℕ) (z : ℤ) (end : ℕ) → field_of s key from ≡ Some (Field.Integer z end) → (to : ℕ) × (Past s from to) × (integer_at s to ≡ Ok (number_of z end))
 unfolding field_of field_at
-field_ends s key from z end e = go (entry_at s key from) refl e
+field_read s key from z end e = go (entry_at s key from) refl e
   where
-    number : (to : ℕ) (n : Number) → integer_at s to ≡ n → number_field n ≡ Field.Integer z end → Past s to end
-    number to (Number.Integer y k) q e = let i : k ≡ end = cc in omega (arith, integer_ends s to y k q)
-    number to (Number.Fault f) q e = let n : ◌≡◌ {A = ℕ} 0 1 = cc in absurd (omega arith)
+    number : (to : ℕ) (n : Result Number Fault) → integer_at s to ≡ n → number_field n ≡ Some (Field.Integer z end) → integer_at s to ≡ Ok (number_of z end)
+    number to (Ok n) q e = q ∙ ap (λ (x : Option Field). number_back x (Ok n)) e
+    number to (Err f) q e = let n : ◌≡◌ {A = ℕ} 0 1 = cc in absurd (omega arith)
 
-    text : (t : Text) → text_field t ≡ Field.Integer z end → ⊥
-    text (Text.Bytes start k) e = let n : ◌≡◌ {A = ℕ} 0 1 = cc in omega arith
-    text (Text.Fault f) e = let n : ◌≡◌ {A = ℕ} 0 1 = cc in omega arith
+    text : (t : Result Text Fault) → text_field t ≡ Some (Field.Integer z end) → ⊥
+    text (Ok t) e = let n : ◌≡◌ {A = ℕ} 0 1 = cc in omega arith
+    text (Err f) e = let n : ◌≡◌ {A = ℕ} 0 1 = cc in omega arith
 
-    kinds : (to : ℕ) (t u v : Bool) → cond t (Field.List (to + 1)) (cond u (Field.Dictionary (to + 1)) (cond v (number_field (integer_at s to)) (text_field (string_at s to)))) ≡ Field.Integer z end → Past s to end
+    kinds : (to : ℕ) (t u v : Bool) → cond t (Some (Field.List (to + 1))) (cond u (Some (Field.Dictionary (to + 1))) (cond v (number_field (integer_at s to)) (text_field (string_at s to)))) ≡ Some (Field.Integer z end) → integer_at s to ≡ Ok (number_of z end)
     kinds to true u v e = let n : ◌≡◌ {A = ℕ} 0 1 = cc in absurd (omega arith)
     kinds to false true v e = let n : ◌≡◌ {A = ℕ} 0 1 = cc in absurd (omega arith)
     kinds to false false true e = number to (integer_at s to) refl e
     kinds to false false false e = absurd (text (string_at s to) e)
 
-    go : (x : Entry) → entry_at s key from ≡ x → entry_field s x ≡ Field.Integer z end → Past s from end
-    go Entry.Missing q e = let n : ◌≡◌ {A = ℕ} 0 1 = cc in absurd (omega arith)
-    go (Entry.At to) q e =
-        let a = find_past s key from to q in
-        let b = kinds to (eqb (byte_at s to) 108) (eqb (byte_at s to) 100) (eqb (byte_at s to) 105) e in
-        omega arith
+    go : (x : Option ℕ) → entry_at s key from ≡ x → entry_field s x ≡ Some (Field.Integer z end) → (to : ℕ) × (Past s from to) × (integer_at s to ≡ Ok (number_of z end))
+    go None q e = let n : ◌≡◌ {A = ℕ} 0 1 = cc in absurd (omega arith)
+    go (Some to) q e = (to, find_past s key from to q, kinds to (eqb (byte_at s to) 108) (eqb (byte_at s to) 100) (eqb (byte_at s to) 105) e)
 
--- a field that is none, by the numbers of the kinds in the order of the source
-abbrev pub NoInteger : Field → Type 0
-NoInteger f = OneOf (1 ∷ 2 ∷ 3 ∷ 4 ∷ []) (tag_of the_type f)
+-- so it ends after the search's start, in the payload, and is in the machine's range
+pub field_ends : (s key : List ℕ) (from : ℕ) (z : ℤ) (end : ℕ) → field_of s key from ≡ Some (Field.Integer z end) → Past s from end
+field_ends s key from z end e =
+    let r = field_read s key from z end e in
+    let a = r.1 in
+    let b = integer_ends s r.0 z end r.2 in
+    omega arith
 
-pub integer_other : {A : Type 0} (other : A) (make : ℤ → ℕ → A) (f : Field) → NoInteger f → other ≡ if_integer other make f
-integer_other other make (Field.Integer z end) h = absurd (miss (1 ∷ 2 ∷ 3 ∷ 4 ∷ []) 0 tt h)
-integer_other other make (Field.Text start end) h = refl
-integer_other other make (Field.List at) h = refl
-integer_other other make (Field.Dictionary at) h = refl
-integer_other other make Field.Missing h = refl
+pub field_fits : (s key : List ℕ) (from : ℕ) (f : Field) (n : Number) → field_of s key from ≡ Some f → integer_in f ≡ Some n → SFits w64 n.value
+field_fits s key from f n e i =
+    let r = field_read s key from n.value n.end (e ∙ ap Some (field_is f n i)) in
+    integer_fits_lem s r.0 n.value n.end r.2
+
+pub integer_other : {A : Type 0} (other : A) (make : ℤ → ℕ → A) (f : Field) → integer_in f ≡ None → if_integer other make (Some f) ≡ other
+integer_other other make (Field.Integer z end) e = let n : ◌≡◌ {A = ℕ} 0 1 = cc in absurd (omega arith)
+integer_other other make (Field.Text start end) e = refl
+integer_other other make (Field.List at) e = refl
+integer_other other make (Field.Dictionary at) e = refl

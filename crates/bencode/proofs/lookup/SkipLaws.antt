@@ -10,20 +10,21 @@ use lib.Dec.{eqb}
 use lib.ListN.{length}
 use Rattle.bencode.specs.declared.fault.Fault.{Fault}
 use Rattle.bencode.specs.declared.strings.Text.{Text}
-use Rattle.bencode.specs.declared.fault.Walk.{Walk}
 use Rattle.bencode.specs.declared.profile.Profile.{Profile}
 use Rattle.octets.specs.Bytes.{byte_at, slice}
-use Rattle.bencode.specs.Fault.{fault}
-use Rattle.bencode.specs.Strings.{string_at}
+use Rattle.bencode.specs.Fault.{fault, Walk}
+use Rattle.bencode.specs.Strings.{string_at, text_of}
 use Rattle.bencode.specs.Key.{key_fault}
 use Rattle.bencode.specs.Loop.{LoopStep, next, done, after_step, repeat, Past, Onward}
 use Rattle.bencode.specs.Scalar.{scalar_at}
-use Rattle.bencode.specs.Walk.{onward, list_step, list_from, entry_step, dictionary_step, dictionary_from, value_at}
+use Rattle.bencode.specs.Walk.{onward, list_step, list_from, entry_step, dictionary_step, dictionary_from, value_at, keyed}
 use Rattle.bencode.specs.Skip.{opens, landed, past_scalar, skip_step, skip_from}
 use Rattle.octets.proofs.digits.NumeralLaws.{inside}
 use Rattle.bencode.proofs.loops.LoopLaws.{repeat_step}
 use Rattle.octets.proofs.sequences.Order.{clash}
 use Rattle.bencode.proofs.walking.Ends.{string_whole_inv, scalar_ends}
+use Rattle.std.specs.Prelude.{Ok, Err, Result, Option, Some, None}
+use Rattle.bencode.specs.declared.fault.Cause.{Cause}
 
 -- ---- opening bytes
 pub opens_some : (b : ℕ) → opens b ≡ true → 100 ≤ b
@@ -67,8 +68,8 @@ module _ (s : List ℕ) where
       go true p u q v r w x e = one_byte at to (omega (arith, eqb-true (byte_at s at) 108 p)) (cc)
       go false p true q v r w x e = one_byte at to (omega (arith, eqb-true (byte_at s at) 100 q)) (cc)
       go false p false q true r w x e = one_byte at to (omega (arith, eqb-true (byte_at s at) 101 r)) (landed_on (at + 1) (depth - 1) to d e)
-      go false p false q false r (Walk.End k) x e = let i = landed_on k depth to d e in let h = scalar_ends s at k x in omega arith
-      go false p false q false r (Walk.Fault f) x e = let z : ◌≡◌ {A = ℕ} 0 1 = cc in absurd (omega arith)
+      go false p false q false r (Ok k) x e = let i = landed_on k depth to d e in let h = scalar_ends s at k x in omega arith
+      go false p false q false r (Err f) x e = let z : ◌≡◌ {A = ℕ} 0 1 = cc in absurd (omega arith)
 
   skip_step_lem : (at depth : ℕ) → skip_from s at depth ≡ after_step (skip_step s at depth) (λ to d. skip_from s to d)
   unfolding skip_from
@@ -88,14 +89,14 @@ module _ (s : List ℕ) where
       skip_scalar_step : (w : Walk) → scalar_at s at ≡ w → skip_from s at depth ≡ after_step (past_scalar at depth w) (λ to d. skip_from s to d)
       skip_scalar_step w x = rw (skip_step_lem at depth, o, ne_eqb (byte_at s at) 101 e, x) refl
 
-      pub skip_fault : (f : Fault) → scalar_at s at ≡ Walk.Fault f → at ≡ skip_from s at depth
-      skip_fault f x = sym (skip_scalar_step (Walk.Fault f) x)
+      pub skip_fault : (f : Fault) → scalar_at s at ≡ Err f → at ≡ skip_from s at depth
+      skip_fault f x = sym (skip_scalar_step (Err f) x)
 
-      pub skip_scalar_last : (end : ℕ) → scalar_at s at ≡ Walk.End end → depth ≡ 0 → end ≡ skip_from s at depth
-      skip_scalar_last end x z = sym (skip_scalar_step (Walk.End end) x ∙ rw (landed_none end depth z) refl)
+      pub skip_scalar_last : (end : ℕ) → scalar_at s at ≡ Ok end → depth ≡ 0 → end ≡ skip_from s at depth
+      skip_scalar_last end x z = sym (skip_scalar_step (Ok end) x ∙ rw (landed_none end depth z) refl)
 
-      pub skip_scalar : (end : ℕ) → scalar_at s at ≡ Walk.End end → (depth ≡ 0 → ⊥) → skip_from s end depth ≡ skip_from s at depth
-      skip_scalar end x z = sym (skip_scalar_step (Walk.End end) x ∙ rw (landed_some end depth z) refl)
+      pub skip_scalar : (end : ℕ) → scalar_at s at ≡ Ok end → (depth ≡ 0 → ⊥) → skip_from s end depth ≡ skip_from s at depth
+      skip_scalar end x z = sym (skip_scalar_step (Ok end) x ∙ rw (landed_some end depth z) refl)
 
   -- ---- where skipping ends: not before its start, and no further than the payload
   landed_done : (at depth r : ℕ) → landed at depth ≡ done r → at ≡ r
@@ -108,8 +109,8 @@ module _ (s : List ℕ) where
       go : (t u : Bool) → eqb (byte_at s at) 101 ≡ u → (w : Walk) → scalar_at s at ≡ w → cond t (next (at + 1) (depth + 1)) (cond u (landed (at + 1) (depth - 1)) (past_scalar at depth w)) ≡ done r → (at ≤ r) × (r ≤ length s)
       go true u p w x e = let z : ◌≡◌ {A = ℕ} 0 1 = cc in absurd (omega arith)
       go false true p w x e = let i = landed_done (at + 1) (depth - 1) r e in omega (arith, inside s at (omega (arith, eqb-true (byte_at s at) 101 p)))
-      go false false p (Walk.End k) x e = let i = landed_done k depth r e in let w = scalar_ends s at k x in omega arith
-      go false false p (Walk.Fault f) x e = let i : at ≡ r = cc in omega arith
+      go false false p (Ok k) x e = let i = landed_done k depth r e in let w = scalar_ends s at k x in omega arith
+      go false false p (Err f) x e = let i : at ≡ r = cc in omega arith
 
   repeat_range : (from n at depth : ℕ) → from ≤ at → at ≤ length s → (from ≤ repeat (skip_step s) from n at depth) × (repeat (skip_step s) from n at depth ≤ length s)
   unfolding repeat
@@ -126,70 +127,70 @@ module _ (s : List ℕ) where
 
   -- ---- a walked value is skipped to its end
   abbrev pub Skips : (ℕ → Walk) → Type 0
-  Skips value = (at end : ℕ) → value at ≡ Walk.End end → (depth : ℕ) → skip_from s at depth ≡ after_step (landed end depth) (λ to d. skip_from s to d)
+  Skips value = (at end : ℕ) → value at ≡ Ok end → (depth : ℕ) → skip_from s at depth ≡ after_step (landed end depth) (λ to d. skip_from s to d)
 
   pub scalar_skips : Skips (scalar_at s)
-  scalar_skips at end e depth = let w = scalar_ends s at end e in skip_scalar_step at depth (not_opens (byte_at s at) w.no_list w.no_dictionary) w.no_e (Walk.End end) e
+  scalar_skips at end e depth = let w = scalar_ends s at end e in skip_scalar_step at depth (not_opens (byte_at s at) w.no_list w.no_dictionary) w.no_e (Ok end) e
 
   -- inside a list or a dictionary skipping goes on
-  inner : (value : ℕ → Walk) → Skips value → (at end depth : ℕ) → value at ≡ Walk.End end → skip_from s at (depth + 1) ≡ skip_from s end (depth + 1)
+  inner : (value : ℕ → Walk) → Skips value → (at end depth : ℕ) → value at ≡ Ok end → skip_from s at (depth + 1) ≡ skip_from s end (depth + 1)
   inner value skips at end depth e = skips at end e (depth + 1) ∙ rw (landed_some end (depth + 1) (omega arith)) refl
 
   -- at its `e` skipping has one open less
   outer : (at depth : ℕ) → byte_at s at ≡ 101 → skip_from s at (depth + 1) ≡ after_step (landed (at + 1) depth) (λ to d. skip_from s to d)
   outer at depth b = let k : depth + 1 - 1 ≡ depth = omega arith in rw (skip_step_lem at (depth + 1), b, k) refl
 
-  pub string_scalar : (at start end : ℕ) → string_at s at ≡ Text.Bytes start end → scalar_at s at ≡ Walk.End end
+  pub string_scalar : (at start end : ℕ) → string_at s at ≡ Ok (text_of start end) → scalar_at s at ≡ Ok end
   unfolding scalar_at
   string_scalar at start end e = let w = string_whole_inv s at start end e in rw (ne_eqb (byte_at s at) 105 (omega arith), e) refl
 
   module _ (value : ℕ → Walk) (skips : Skips value) (f : Fault) where
-    pub list_skips : (n at end : ℕ) → repeat (list_step value s) (Walk.Fault f) n at tt ≡ Walk.End end → (depth : ℕ) → skip_from s at (depth + 1) ≡ after_step (landed end depth) (λ to d. skip_from s to d)
+    pub list_skips : (n at end : ℕ) → repeat (list_step value s) (Err f) n at tt ≡ Ok end → (depth : ℕ) → skip_from s at (depth + 1) ≡ after_step (landed end depth) (λ to d. skip_from s to d)
     unfolding repeat
     list_skips zero at end e depth = let z : ◌≡◌ {A = ℕ} 0 1 = cc in absurd (omega arith)
     list_skips (suc n) at end e depth = go (eqb (byte_at s at) 101) refl (value at) refl e (λ to q. list_skips n to end q depth)
       where
-        go : (t : Bool) → eqb (byte_at s at) 101 ≡ t → (w : Walk) → value at ≡ w → after_step (cond t (done (Walk.End (at + 1))) (onward w tt)) (λ to y. repeat (list_step value s) (Walk.Fault f) n to y) ≡ Walk.End end
-            → ((to : ℕ) → repeat (list_step value s) (Walk.Fault f) n to tt ≡ Walk.End end → skip_from s to (depth + 1) ≡ after_step (landed end depth) (λ to d. skip_from s to d))
+        go : (t : Bool) → eqb (byte_at s at) 101 ≡ t → (w : Walk) → value at ≡ w → after_step (cond t (done (Ok (at + 1))) (onward w tt)) (λ to y. repeat (list_step value s) (Err f) n to y) ≡ Ok end
+            → ((to : ℕ) → repeat (list_step value s) (Err f) n to tt ≡ Ok end → skip_from s to (depth + 1) ≡ after_step (landed end depth) (λ to d. skip_from s to d))
             → skip_from s at (depth + 1) ≡ after_step (landed end depth) (λ to d. skip_from s to d)
         go true p w x e rec = let i : at + 1 ≡ end = cc in rw (← i) (outer at depth (eqb-true (byte_at s at) 101 p))
-        go false p (Walk.Fault g) x e rec = let z : ◌≡◌ {A = ℕ} 0 1 = cc in absurd (omega arith)
-        go false p (Walk.End k) x e rec = inner value skips at k depth x ∙ rec k e
+        go false p (Err g) x e rec = let z : ◌≡◌ {A = ℕ} 0 1 = cc in absurd (omega arith)
+        go false p (Ok k) x e rec = inner value skips at k depth x ∙ rec k e
 
     module _ (p : Profile) where
-      pub dictionary_skips : (n at : ℕ) (keys : List (List ℕ)) (end : ℕ) → repeat (dictionary_step p value s) (Walk.Fault f) n at keys ≡ Walk.End end → (depth : ℕ) → skip_from s at (depth + 1) ≡ after_step (landed end depth) (λ to d. skip_from s to d)
+      pub dictionary_skips : (n at : ℕ) (keys : List (List ℕ)) (end : ℕ) → repeat (dictionary_step p value s) (Err f) n at keys ≡ Ok end → (depth : ℕ) → skip_from s at (depth + 1) ≡ after_step (landed end depth) (λ to d. skip_from s to d)
       unfolding repeat
       dictionary_skips zero at keys end e depth = let z : ◌≡◌ {A = ℕ} 0 1 = cc in absurd (omega arith)
       dictionary_skips (suc n) at keys end e depth = go (eqb (byte_at s at) 101) refl (string_at s at) refl e (λ to ks q. dictionary_skips n to ks end q depth)
         where
-          keyed_skips : (number start k : ℕ) (ks : List (List ℕ)) → string_at s at ≡ Text.Bytes start k → (t : Bool) (w : Walk) → value k ≡ w → after_step (cond t (onward w ks) (done (Walk.Fault (fault number at)))) (λ to y. repeat (dictionary_step p value s) (Walk.Fault f) n to y) ≡ Walk.End end
-              → ((to : ℕ) (ks : List (List ℕ)) → repeat (dictionary_step p value s) (Walk.Fault f) n to ks ≡ Walk.End end → skip_from s to (depth + 1) ≡ after_step (landed end depth) (λ to d. skip_from s to d))
+          keyed_skips : (r : Option Cause) (start k : ℕ) (ks : List (List ℕ)) → string_at s at ≡ Ok (text_of start k) → (w : Walk) → value k ≡ w → after_step (keyed r at w ks) (λ to y. repeat (dictionary_step p value s) (Err f) n to y) ≡ Ok end
+              → ((to : ℕ) (ks : List (List ℕ)) → repeat (dictionary_step p value s) (Err f) n to ks ≡ Ok end → skip_from s to (depth + 1) ≡ after_step (landed end depth) (λ to d. skip_from s to d))
               → skip_from s at (depth + 1) ≡ after_step (landed end depth) (λ to d. skip_from s to d)
-          keyed_skips number start k ks x false w y e rec = let z : ◌≡◌ {A = ℕ} 0 1 = cc in absurd (omega arith)
-          keyed_skips number start k ks x true (Walk.Fault g) y e rec = let z : ◌≡◌ {A = ℕ} 0 1 = cc in absurd (omega arith)
-          keyed_skips number start k ks x true (Walk.End m) y e rec = inner (scalar_at s) scalar_skips at k depth (string_scalar at start k x) ∙ inner value skips k m depth y ∙ rec m ks e
+          keyed_skips (Some c) start k ks x w y e rec = let z : ◌≡◌ {A = ℕ} 0 1 = cc in absurd (omega arith)
+          keyed_skips None start k ks x (Err g) y e rec = let z : ◌≡◌ {A = ℕ} 0 1 = cc in absurd (omega arith)
+          keyed_skips None start k ks x (Ok m) y e rec = inner (scalar_at s) scalar_skips at k depth (string_scalar at start k x) ∙ inner value skips k m depth y ∙ rec m ks e
 
-          go : (t : Bool) → eqb (byte_at s at) 101 ≡ t → (w : Text) → string_at s at ≡ w → after_step (cond t (done (Walk.End (at + 1))) (entry_step p value s at keys w)) (λ to y. repeat (dictionary_step p value s) (Walk.Fault f) n to y) ≡ Walk.End end
-              → ((to : ℕ) (ks : List (List ℕ)) → repeat (dictionary_step p value s) (Walk.Fault f) n to ks ≡ Walk.End end → skip_from s to (depth + 1) ≡ after_step (landed end depth) (λ to d. skip_from s to d))
+          go : (t : Bool) → eqb (byte_at s at) 101 ≡ t → (w : Result Text Fault) → string_at s at ≡ w → after_step (cond t (done (Ok (at + 1))) (entry_step p value s at keys w)) (λ to y. repeat (dictionary_step p value s) (Err f) n to y) ≡ Ok end
+              → ((to : ℕ) (ks : List (List ℕ)) → repeat (dictionary_step p value s) (Err f) n to ks ≡ Ok end → skip_from s to (depth + 1) ≡ after_step (landed end depth) (λ to d. skip_from s to d))
               → skip_from s at (depth + 1) ≡ after_step (landed end depth) (λ to d. skip_from s to d)
           go true q w x e rec = let i : at + 1 ≡ end = cc in rw (← i) (outer at depth (eqb-true (byte_at s at) 101 q))
-          go false q (Text.Fault g) x e rec = let z : ◌≡◌ {A = ℕ} 0 1 = cc in absurd (omega arith)
-          go false q (Text.Bytes start k) x e rec = keyed_skips (key_fault p keys (slice s start k)) start k (slice s start k ∷ keys) x (eqb (key_fault p keys (slice s start k)) 0) (value k) refl e rec
+          go false q (Err g) x e rec = let z : ◌≡◌ {A = ℕ} 0 1 = cc in absurd (omega arith)
+          go false q (Ok t) x e rec = keyed_skips (key_fault p keys (slice s t.start t.end)) t.start t.end (slice s t.start t.end ∷ keys) x (value t.end) refl e rec
 
   pub value_skips : (p : Profile) (levels : ℕ) → Skips (value_at p levels s)
   unfolding value_at list_from dictionary_from
   value_skips p zero at end e depth = go (eqb (byte_at s at) 108) (eqb (byte_at s at) 100) e
     where
-      go : (t u : Bool) → cond t (Walk.Fault (fault 7 at)) (cond u (Walk.Fault (fault 7 at)) (scalar_at s at)) ≡ Walk.End end → skip_from s at depth ≡ after_step (landed end depth) (λ to d. skip_from s to d)
+      go : (t u : Bool) → cond t (Err (fault Cause.Depth at)) (cond u (Err (fault Cause.Depth at)) (scalar_at s at)) ≡ Ok end → skip_from s at depth ≡ after_step (landed end depth) (λ to d. skip_from s to d)
       go true u e = let z : ◌≡◌ {A = ℕ} 0 1 = cc in absurd (omega arith)
       go false true e = let z : ◌≡◌ {A = ℕ} 0 1 = cc in absurd (omega arith)
       go false false e = scalar_skips at end e depth
   value_skips p (suc levels) at end e depth = go (eqb (byte_at s at) 108) refl (eqb (byte_at s at) 100) refl (value_skips p levels) e
     where
-      in_list : Skips (value_at p levels s) → (to : ℕ) → list_from (value_at p levels s) s to ≡ Walk.End end → skip_from s to (depth + 1) ≡ after_step (landed end depth) (λ to d. skip_from s to d)
-      in_list h to e = list_skips (value_at p levels s) h (fault 5 to) (suc (length s - to)) to end e depth
+      in_list : Skips (value_at p levels s) → (to : ℕ) → list_from (value_at p levels s) s to ≡ Ok end → skip_from s to (depth + 1) ≡ after_step (landed end depth) (λ to d. skip_from s to d)
+      in_list h to e = list_skips (value_at p levels s) h (fault Cause.Syntax to) (suc (length s - to)) to end e depth
 
-      go : (t : Bool) → eqb (byte_at s at) 108 ≡ t → (u : Bool) → eqb (byte_at s at) 100 ≡ u → Skips (value_at p levels s) → cond t (list_from (value_at p levels s) s (at + 1)) (cond u (dictionary_from p (value_at p levels s) s (at + 1) []) (scalar_at s at)) ≡ Walk.End end → skip_from s at depth ≡ after_step (landed end depth) (λ to d. skip_from s to d)
+      go : (t : Bool) → eqb (byte_at s at) 108 ≡ t → (u : Bool) → eqb (byte_at s at) 100 ≡ u → Skips (value_at p levels s) → cond t (list_from (value_at p levels s) s (at + 1)) (cond u (dictionary_from p (value_at p levels s) s (at + 1) []) (scalar_at s at)) ≡ Ok end → skip_from s at depth ≡ after_step (landed end depth) (λ to d. skip_from s to d)
       go true b u c h e = sym (skip_open at depth (opens_list (byte_at s at) b)) ∙ in_list h (at + 1) e
-      go false b true c h e = sym (skip_open at depth (opens_dictionary (byte_at s at) c)) ∙ dictionary_skips (value_at p levels s) h (fault 5 (at + 1)) p (suc (length s - (at + 1))) (at + 1) [] end e depth
+      go false b true c h e = sym (skip_open at depth (opens_dictionary (byte_at s at) c)) ∙ dictionary_skips (value_at p levels s) h (fault Cause.Syntax (at + 1)) p (suc (length s - (at + 1))) (at + 1) [] end e depth
       go false b false c h e = scalar_skips at end e depth

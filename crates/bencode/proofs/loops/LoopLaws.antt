@@ -9,9 +9,10 @@ use borrow.Author.Tests.{eq-eqb, ne_eqb}
 use lib.Dec.{eqb}
 use lib.ListN.{length}
 use Rattle.bencode.specs.declared.fault.Fault.{Fault}
-use Rattle.bencode.specs.declared.fault.Walk.{Walk}
 use Rattle.octets.specs.Bytes.{byte_at}
 use Rattle.bencode.specs.Loop.{LoopStep, next, done, after_step, repeat, repeat_from, item_step, items_from, Past, Onward}
+use Rattle.bencode.specs.Fault.{Walk}
+use Rattle.std.specs.Prelude.{Ok, Err}
 
 -- the fuel does not matter where it is more than the bytes left
 repeat_enough : {X A : Type 0} (s : List ℕ) (step : ℕ → X → LoopStep X A) → Onward s step → (a b : A) (n m at : ℕ) (x : X) → length s - at < n → length s - at < m → repeat step a n at x ≡ repeat step b m at x
@@ -34,12 +35,12 @@ repeat_step {X} {A} s step h d at x = go (step at x) refl
     go (done r) e = refl
 
 -- a walk by steps ends further right where each last step does
-pub repeat_end : {X : Type 0} (s : List ℕ) (step : ℕ → X → LoopStep X Walk) → Onward s step → ((at : ℕ) (x : X) (e : ℕ) → step at x ≡ done (Walk.End e) → Past s at e) → (f : Fault) (n at : ℕ) (x : X) (e : ℕ) → repeat step (Walk.Fault f) n at x ≡ Walk.End e → Past s at e
+pub repeat_end : {X : Type 0} (s : List ℕ) (step : ℕ → X → LoopStep X Walk) → Onward s step → ((at : ℕ) (x : X) (e : ℕ) → step at x ≡ done (Ok e) → Past s at e) → (f : Fault) (n at : ℕ) (x : X) (e : ℕ) → repeat step (Err f) n at x ≡ Ok e → Past s at e
 unfolding repeat
 repeat_end s step h stops f zero at x e p = let z : ◌≡◌ {A = ℕ} 0 1 = cc in absurd (omega arith)
 repeat_end {X} s step h stops f (suc n) at x e p = go (step at x) refl p (λ to y q. repeat_end s step h stops f n to y e q)
   where
-    go : (t : LoopStep X Walk) → step at x ≡ t → after_step t (λ to y. repeat step (Walk.Fault f) n to y) ≡ Walk.End e → ((to : ℕ) (y : X) → repeat step (Walk.Fault f) n to y ≡ Walk.End e → Past s to e) → Past s at e
+    go : (t : LoopStep X Walk) → step at x ≡ t → after_step t (λ to y. repeat step (Err f) n to y) ≡ Ok e → ((to : ℕ) (y : X) → repeat step (Err f) n to y ≡ Ok e → Past s to e) → Past s at e
     go (next to y) q p rec = let r = rec to y p in omega (arith, h at x to y q)
     go (done r) q p rec = stops at x e (q ∙ ap done p)
 

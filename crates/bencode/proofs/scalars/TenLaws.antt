@@ -9,14 +9,17 @@ use native.Mathlib.Omega.{arith}
 use native.Mathlib.Decide.{ℕ_discrete, dec_le}
 use Prim.{Dec, yes, no}
 use lib.IntN.{pos}
+use Rattle.std.specs.Prelude.{Some}
 use Rattle.octets.specs.declared.numerals.Decimal.{Decimal}
 use Rattle.octets.specs.Bytes.{byte_at}
 use Rattle.octets.specs.Numerals.{is_digit, digits_at}
 use Rattle.octets.proofs.digits.NumeralLaws.{digits_stop, digits_below, digits_above}
-use Rattle.bencode.specs.declared.integers.Number.{Number}
-use Rattle.bencode.specs.Integers.{BoundedDigits, integer_at, after_positive}
+use Rattle.bencode.specs.Integers.{BoundedDigits, integer_at, after_positive, number_of}
 use Rattle.bencode.proofs.scalars.FewLaws.{Few, few_none, few_more, few_natural}
+use Rattle.bencode.specs.Classes.{class_of, DigitsTo}
+use Rattle.bencode.proofs.walking.ClassLaws.{digit_is, digit_is_not}
 use Rattle.bencode.proofs.scalars.PositiveLaws.{number_within}
+use Rattle.std.specs.Prelude.{Ok}
 
 -- a byte of 0 to 9
 abbrev pub Digit : ℕ → Type 0
@@ -123,11 +126,39 @@ module _ (s : List ℕ) (from : ℕ) where
           let m = t.0 * 10 + (byte_at s (from + k) - 48) in
           (m, few_more s from k t.0 t.1 (omega arith) low high m refl, lead_more k t.0 t.2 h low high)
 
+-- ---- as many digits as were found
+module _ (s : List ℕ) (from : ℕ) where
+  tens_to : (k : ℕ) → k ≤ 10 → ((j : ℕ) → j < k → class_of (byte_at s (from + j)) ≡ 48) → Tens s from k
+  tens_to zero h d = tens_none s from
+  tens_to (suc k) h d =
+      let b = digit_is (byte_at s (from + k)) (d k (omega arith)) in
+      let e : k + 1 ≡ suc k = omega arith in
+      subst (Tens s from) e (tens_more s from k (tens_to k (omega (arith, h)) (λ j l. d j (omega (arith, l)))) (omega (arith, h)) b.0 b.1)
+
+  module _ (end : ℕ) (found : DigitsTo s from 10 end) where
+    tens_found : Tens s from (end - from)
+    tens_found = tens_to (end - from) (omega (arith, found.1)) (λ j h. found.2 j (omega (arith, h, found.0)))
+
+    pub tens_fewer : end < from + 10 → Bounds s from end 1000000000
+    tens_fewer l =
+        let k = end - from in
+        let e : from + k ≡ end = omega (arith, found.0) in
+        let none = digit_is_not (byte_at s (from + k)) (rw e (found.3 l)) in
+        subst (λ (i : ℕ). Bounds s from i 1000000000) e (tens_stop s from k tens_found (omega (arith, l, found.0)) none)
+
+    pub tens_first : from + 10 ≤ end → Digit (byte_at s from) × Digit (byte_at s (from + 1))
+    tens_first l = tens_lead s from (end - from) tens_found (omega (arith, l))
+
+    pub tens_most : from + 10 ≤ end → Bounds s from end (pair_above s from * 100000000)
+    tens_most l =
+        let e : from + 10 ≡ end = omega (arith, l, found.1) in
+        subst (λ (i : ℕ). Bounds s from i (pair_above s from * 100000000)) e (tens_all s from (end - from) tens_found (omega (arith, l)))
+
 -- ---- an integer of some digits, the first of which is no 0, and whose bound is at most another
-pub ten_positive : (s : List ℕ) (at high end above : ℕ) → BoundedDigits s (at + 1) end above (digits_at s (at + 1)) → byte_at s end ≡ 101 → byte_at s at ≡ 105 → (byte_at s (at + 1) ≡ 48 → ⊥) → (end ≡ at + 1 → ⊥) → at + 1 ≤ end → above ≤ high → end + 1 ≡ after_positive high (integer_at s at)
+pub ten_positive : (s : List ℕ) (at high end above : ℕ) → BoundedDigits s (at + 1) end above (digits_at s (at + 1)) → byte_at s end ≡ 101 → byte_at s at ≡ 105 → (byte_at s (at + 1) ≡ 48 → ⊥) → (end ≡ at + 1 → ⊥) → at + 1 ≤ end → above ≤ high → after_positive high (integer_at s at) ≡ Some (end + 1)
 ten_positive s at high end above (is, h, t, first) e i z o some l =
     let d = digits_at s (at + 1) in
     let more : at + 1 < end = omega (arith, o, some) in
     let digit : 48 ≤ byte_at s (at + 1) = elim (dec_le 48 (byte_at s (at + 1))) [ yes p ↦ p | no q ↦ absurd (omega (arith, more, is, ap (λ (x : Decimal). x.end) (digits_below 0 (at + 1) s (omega (arith, q))))) ] in
-    let read : integer_at s at ≡ Number.Integer (pos d.number) (d.end + 1) = few_natural s at d refl (ap (byte_at s) (sym is) ∙ e) i (omega (arith, t)) (omega (arith, is, more)) (λ q. absurd (z q)) in
-    ap (λ (n : ℕ). n + 1) is ∙ number_within s at high d.number (d.end + 1) read (omega (arith, first more, digit, z)) (omega (arith, h, l))
+    let read : integer_at s at ≡ Ok (number_of (pos d.number) (d.end + 1)) = few_natural s at d refl (ap (byte_at s) (sym is) ∙ e) i (omega (arith, t)) (omega (arith, is, more)) (λ q. absurd (z q)) in
+    sym (ap (λ (n : ℕ). Some (n + 1)) is ∙ number_within s at high d.number (d.end + 1) read (omega (arith, first more, digit, z)) (omega (arith, h, l)))

@@ -6,7 +6,7 @@ use mathlib.Core.Logic.{◌⊎◌, inl, inr}
 use mathlib.Core.Bool.{true}
 use mathlib.Core.List.{List}
 use native.Mathlib.Omega.{arith}
-use lib.ListN.{length, drop, length-drop}
+use lib.ListN.{length, drop, take, length-drop}
 use lib.Seq.{get_or-take, get_or-drop, length-take-le}
 use Rattle.octets.specs.Bytes.{byte_at, slice}
 use Rattle.octets.proofs.digits.DigitLaws.{lt_or_le}
@@ -25,10 +25,14 @@ plain_eight s at b (suc (suc (suc (suc (suc (suc zero)))))) h = b.6
 plain_eight s at b (suc (suc (suc (suc (suc (suc (suc zero))))))) h = b.7
 plain_eight s at b (suc (suc (suc (suc (suc (suc (suc (suc k)))))))) h = absurd (omega (arith, h))
 
--- no bytes, and fewer
-pub plain_none : (s : List ℕ) (at : ℕ) → PlainAt s at 0
-plain_none s at k h = absurd (omega (arith, h))
+-- the first eight bytes of what is left from an offset on
+pub plain_chunk : (s : List ℕ) (at : ℕ) (ys : List ℕ) → ys ≡ take 8 (drop at s) → PlainAt ys 0 8 → PlainAt s at 8
+plain_chunk s at ys e p k h =
+    let z : 0 + k ≡ k = omega arith in
+    let same : byte_at ys (0 + k) ≡ byte_at s (at + k) = ap (byte_at ys) z ∙ ap (λ (x : List ℕ). byte_at x k) e ∙ get_or-take 8 (drop at s) k 0 h ∙ get_or-drop at s k 0 in
+    subst Plain same (p k h)
 
+-- fewer bytes
 pub plain_fewer : (s : List ℕ) (at n m : ℕ) → m ≤ n → PlainAt s at n → PlainAt s at m
 plain_fewer s at n m l p k h = p k (omega (arith, h, l))
 

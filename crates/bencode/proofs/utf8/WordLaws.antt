@@ -6,7 +6,11 @@ use mathlib.Core.Logic.{⊎_elim}
 use native.Mathlib.Omega.{arith}
 use lib.Bits.{bit_and, and_block, and_le_l, and_le_r}
 use Rattle.octets.proofs.digits.DigitLaws.{lt_or_le}
-use Rattle.bencode.specs.Utf8.{PlainBytes, word_of}
+use Rattle.bencode.specs.Utf8.{PlainAt, PlainBytes, word_of}
+use Rattle.octets.specs.Bytes.{byte_at}
+use Rattle.bencode.proofs.utf8.PlainLaws.{plain_eight}
+use Rattle.std.specs.Int.{w64, from_le_bytes}
+use mathlib.Core.List.{List}
 
 -- a byte without its highest bit
 low_byte : (r : ℕ) → r < 256 → bit_and r 128 ≡ 0 → r ≤ 127
@@ -111,3 +115,26 @@ module _ (a b c d e f g h : ℕ) (ha : a < 256) (hb : b < 256) (hc : c < 256) (h
   plain_word z y =
       let p = above (below z) y in
       (p.first, p.second, p.third, p.fourth, p.fifth, p.sixth, p.seventh, p.eighth)
+
+-- ---- eight bytes of a list
+module _ (b : List ℕ) (fits : (k : ℕ) → k < 8 → byte_at b k < 256) where
+  abbrev whole_word : ℕ
+  whole_word = word_of (byte_at b 0) (byte_at b 1) (byte_at b 2) (byte_at b 3) (byte_at b 4) (byte_at b 5) (byte_at b 6) (byte_at b 7)
+
+  read_word : from_le_bytes w64 b ≡ whole_word
+  read_word = omega arith
+
+  pub read_room : bit_and (from_le_bytes w64 b) 0x8080808080808080 ≡ 0 → from_le_bytes w64 b + 0x7F7F7F7F7F7F7F7F < 2 ^ 64
+  read_room z =
+      let l = low_sum (byte_at b 0) (byte_at b 1) (byte_at b 2) (byte_at b 3) (byte_at b 4) (byte_at b 5) (byte_at b 6) (byte_at b 7)
+      (fits 0 (omega arith)) (fits 1 (omega arith)) (fits 2 (omega arith)) (fits 3 (omega arith)) (fits 4 (omega arith)) (fits 5 (omega arith)) (fits 6 (omega arith)) (fits 7 (omega arith))
+      (ap (λ (x : ℕ). bit_and x 0x8080808080808080) (sym read_word) ∙ z) in
+      rw read_word l
+
+  pub read_plain : bit_and (from_le_bytes w64 b) 0x8080808080808080 ≡ 0 → bit_and (from_le_bytes w64 b + 0x7F7F7F7F7F7F7F7F) 0x8080808080808080 ≡ 0x8080808080808080 → PlainAt b 0 8
+  read_plain z y =
+      plain_eight b 0
+      (plain_word (byte_at b 0) (byte_at b 1) (byte_at b 2) (byte_at b 3) (byte_at b 4) (byte_at b 5) (byte_at b 6) (byte_at b 7)
+      (fits 0 (omega arith)) (fits 1 (omega arith)) (fits 2 (omega arith)) (fits 3 (omega arith)) (fits 4 (omega arith)) (fits 5 (omega arith)) (fits 6 (omega arith)) (fits 7 (omega arith))
+      (ap (λ (x : ℕ). bit_and x 0x8080808080808080) (sym read_word) ∙ z)
+      (ap (λ (x : ℕ). bit_and (x + 0x7F7F7F7F7F7F7F7F) 0x8080808080808080) (sym read_word) ∙ y))

@@ -14,6 +14,7 @@ use Rattle.bencode.specs.Value.{Value, integer, string, list, dictionary, signed
 use Rattle.bencode.proofs.walking.Ends.{string_whole_inv}
 use Rattle.octets.proofs.sequences.BeginsLaws.{begins_left, begins_head}
 use Rattle.bencode.proofs.values.ScalarReads.{first_digit}
+use Rattle.std.specs.Prelude.{Result, Ok, Err}
 
 abbrev pub FirstByte : Value → ℕ → Type 0
 FirstByte (integer z) b = b ≡ 105
@@ -42,9 +43,9 @@ module _ (s : List ℕ) where
   no_end (dictionary es) b h q = omega arith
 
   -- no string begins with a byte above the digits
-  pub no_string : (at : ℕ) → 57 < byte_at s at → (f : Fault) × (string_at s at ≡ Text.Fault f)
+  pub no_string : (at : ℕ) → 57 < byte_at s at → (f : Fault) × (string_at s at ≡ Err f)
   no_string at h = go (string_at s at) refl
     where
-      go : (t : Text) → string_at s at ≡ t → (f : Fault) × (string_at s at ≡ Text.Fault f)
-      go (Text.Fault f) e = (f, e)
-      go (Text.Bytes start end) e = absurd (omega (arith, (string_whole_inv s at start end e).high))
+      go : (t : Result Text Fault) → string_at s at ≡ t → (f : Fault) × (string_at s at ≡ Err f)
+      go (Err f) e = (f, e)
+      go (Ok t) e = absurd (omega (arith, (string_whole_inv s at t.start t.end e).high))

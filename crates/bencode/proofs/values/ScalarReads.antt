@@ -12,16 +12,15 @@ use lib.IntN.{ℤ, pos, negsuc}
 use lib.Signed.{mag}
 use lib.ListN.{length, get_or}
 use lib.Seq.{get_or-drop}
-use Rattle.bencode.specs.declared.strings.Text.{Text}
-use Rattle.bencode.specs.declared.integers.Number.{Number}
 use Rattle.octets.specs.Bytes.{byte_at, slice, Begins}
 use Rattle.octets.specs.Numerals.{is_digit, digits, numeral_at, decimal}
-use Rattle.bencode.specs.Strings.{string_at}
-use Rattle.bencode.specs.Integers.{integer_from, integer_at, signed}
+use Rattle.bencode.specs.Strings.{string_at, text_of}
+use Rattle.bencode.specs.Integers.{integer_from, integer_at, signed, number_of}
 use Rattle.bencode.specs.Value.{signed_decimal, encode_string}
 use Rattle.octets.proofs.digits.NumeralLaws.{inside, digits_stop, numeral_zero, numeral_digits}
 use Rattle.octets.proofs.digits.DecimalLaws.{decimal_small, digits_decimal, First, first}
 use Rattle.octets.proofs.sequences.BeginsLaws.{begins_rest, begins_left, begins_right, begins_head, begins_within, slice_begins}
+use Rattle.std.specs.Prelude.{Ok}
 
 module _ (s : List ℕ) where
   -- a number's digits begin with a digit
@@ -48,11 +47,11 @@ module _ (s : List ℕ) where
   no_digit b h = rw (le-leb 48 b (omega arith), lt-leb b 57 h) refl
 
   -- ---- strings
-  string_of_lem : (at m n e : ℕ) → numeral_at s at ≡ record { end = m; number = n } → (m ≡ at → ⊥) → byte_at s m ≡ 58 → n ≤ length s - (m + 1) → string_at s at ≡ Text.Bytes (m + 1) (m + 1 + n)
+  string_of_lem : (at m n e : ℕ) → numeral_at s at ≡ record { end = m; number = n } → (m ≡ at → ⊥) → byte_at s m ≡ 58 → n ≤ length s - (m + 1) → string_at s at ≡ Ok (text_of (m + 1) (m + 1 + n))
   unfolding string_at
   string_of_lem at m n e num some colon fits = rw (num, ne_eqb m at some, eq-eqb (byte_at s m) 58 colon, le-leb n (length s - (m + 1)) fits) refl
 
-  pub string_reads : (at e : ℕ) (text : List ℕ) → Begins s at (encode_string text) e → (start : ℕ) × (string_at s at ≡ Text.Bytes start e) × (slice s start e ≡ text) × (start + length text ≡ e)
+  pub string_reads : (at e : ℕ) (text : List ℕ) → Begins s at (encode_string text) e → (start : ℕ) × (string_at s at ≡ Ok (text_of start e)) × (slice s start e ≡ text) × (start + length text ≡ e)
   string_reads at e text b =
       let m = at + length (decimal (length text)) in
       let l = begins_left s at e (decimal (length text)) (58 ∷ text) b in
@@ -65,17 +64,17 @@ module _ (s : List ℕ) where
       let some : at + length (decimal (length text)) ≡ at → ⊥ = λ q. omega (arith, f.high, ap (λ (k : ℕ). byte_at s k) q) in
       let last : at + length (decimal (length text)) + 1 + length text ≡ e = omega (arith, t.ends) in (
         at + length (decimal (length text)) + 1,
-        string_of_lem at (at + length (decimal (length text))) (length text) e (numeral_reads at (length text) (at + length (decimal (length text))) l (no_digit (byte_at s (at + length (decimal (length text)))) (omega arith))) some colon (omega (arith, t.ends)) ∙ ap (λ (k : ℕ). Text.Bytes (at + length (decimal (length text)) + 1) k) last,
+        string_of_lem at (at + length (decimal (length text))) (length text) e (numeral_reads at (length text) (at + length (decimal (length text))) l (no_digit (byte_at s (at + length (decimal (length text)))) (omega arith))) some colon (omega (arith, t.ends)) ∙ ap (λ (k : ℕ). Ok (text_of (at + length (decimal (length text)) + 1) k)) last,
         slice_begins s (at + length (decimal (length text)) + 1) e text t,
         last,
       )
 
   -- ---- integers
-  integer_of_lem : (at from m n : ℕ) (negative : Bool) → numeral_at s from ≡ record { end = m; number = n } → (m ≡ from → ⊥) → byte_at s m ≡ 101 → mag (signed negative n) < 2 ^ 63 → integer_from s at from negative ≡ Number.Integer (signed negative n) (m + 1)
+  integer_of_lem : (at from m n : ℕ) (negative : Bool) → numeral_at s from ≡ record { end = m; number = n } → (m ≡ from → ⊥) → byte_at s m ≡ 101 → mag (signed negative n) < 2 ^ 63 → integer_from s at from negative ≡ Ok (number_of (signed negative n) (m + 1))
   unfolding integer_from
   integer_of_lem at from m n negative num some letter fits = rw (num, ne_eqb m from some, eq-eqb (byte_at s m) 101 letter, lt-ltb (mag (signed negative n)) (2 ^ 63) fits) refl
 
-  digits_read : (at from n e : ℕ) (negative : Bool) → Begins s from (decimal n ++ (101 ∷ [])) e → mag (signed negative n) < 2 ^ 63 → integer_from s at from negative ≡ Number.Integer (signed negative n) e
+  digits_read : (at from n e : ℕ) (negative : Bool) → Begins s from (decimal n ++ (101 ∷ [])) e → mag (signed negative n) < 2 ^ 63 → integer_from s at from negative ≡ Ok (number_of (signed negative n) e)
   digits_read at from n e negative b fits =
       let l = begins_left s from e (decimal n) (101 ∷ []) b in
       let r = begins_right s from e (decimal n) (101 ∷ []) b in
@@ -84,9 +83,9 @@ module _ (s : List ℕ) where
       let some : from + length (decimal n) ≡ from → ⊥ = λ q. omega (arith, f.high, ap (λ (k : ℕ). byte_at s k) q) in
       let last : from + length (decimal n) + 1 ≡ e = omega (arith, r.ends) in
       integer_of_lem at from (from + length (decimal n)) n negative (numeral_reads from n (from + length (decimal n)) l (no_digit (byte_at s (from + length (decimal n))) (omega arith))) some letter fits
-      ∙ ap (λ (k : ℕ). Number.Integer (signed negative n) k) last
+      ∙ ap (λ (k : ℕ). Ok (number_of (signed negative n) k)) last
 
-  pub integer_reads : (at e : ℕ) (z : ℤ) → mag z < 2 ^ 63 → Begins s at (105 ∷ (signed_decimal z ++ (101 ∷ []))) e → integer_at s at ≡ Number.Integer z e
+  pub integer_reads : (at e : ℕ) (z : ℤ) → mag z < 2 ^ 63 → Begins s at (105 ∷ (signed_decimal z ++ (101 ∷ []))) e → integer_at s at ≡ Ok (number_of z e)
   unfolding integer_at
   integer_reads at e (pos n) fits b =
       let i : byte_at s at ≡ 105 = begins_head s at 105 e (decimal n ++ (101 ∷ [])) b in

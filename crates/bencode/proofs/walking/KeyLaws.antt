@@ -8,13 +8,9 @@ use native.Mathlib.Omega.{arith}
 use borrow.Author.Tests.{le-leb, lt-leb, lt-ltb, le-ltb}
 use lib.Dec.{leb}
 use lib.ListN.{length}
-use Rattle.bencode.specs.declared.entry.Entry.{Entry}
 use Rattle.bencode.specs.declared.key.Seen.{Seen}
-use Rattle.bencode.specs.declared.key.KeyCheck.{KeyCheck}
-use Rattle.bencode.specs.declared.strings.Text.{Text}
-use Rattle.bencode.specs.declared.fault.Walk.{Walk}
 use Rattle.bencode.specs.declared.profile.Profile.{Profile}
-use Rattle.bencode.specs.Strings.{string_at}
+use Rattle.bencode.specs.Strings.{string_at, text_of}
 use Rattle.octets.specs.Bytes.{slice, same, less}
 use Rattle.bencode.specs.Utf8.{is_text}
 use Rattle.bencode.specs.Key.{is_used, is_above, order_fault, key_fault}
@@ -32,19 +28,23 @@ use Rattle.bencode.proofs.walking.KeyOrder.{Under, above_all, above_unused, not_
 use Rattle.bencode.proofs.utf8.TextKeyLaws.{fault_of_text}
 use Rattle.bencode.proofs.lookup.SkipLaws.{value_skips}
 use Rattle.bencode.proofs.lookup.EntryLaws.{find_here, find_more}
+use Rattle.bencode.specs.Fault.{Walk, fault}
+use Rattle.bencode.specs.declared.fault.Fault.{Fault}
+use Rattle.std.specs.Prelude.{Ok, Some, None, Err}
+use Rattle.bencode.specs.declared.fault.Cause.{Cause}
 
 -- the keys of the entries from an offset up to another, the latest first, where `value` walks a value
 pub data Earlier (value : ℕ → Walk) (s : List ℕ) (first : ℕ) : ℕ → List (List ℕ) → Type 0 where
   none : Earlier value s first first []
-  more : {at start end to : ℕ} {keys : List (List ℕ)} → Earlier value s first at keys → string_at s at ≡ Text.Bytes start end → value end ≡ Walk.End to → Earlier value s first to (slice s start end ∷ keys)
+  more : {at start end to : ℕ} {keys : List (List ℕ)} → Earlier value s first at keys → string_at s at ≡ Ok (text_of start end) → value end ≡ Ok to → Earlier value s first to (slice s start end ∷ keys)
 
 -- an entry ends after where it starts
-entry_past : (p : Profile) (levels : ℕ) (s : List ℕ) (at start end to : ℕ) → string_at s at ≡ Text.Bytes start end → value_at p levels s end ≡ Walk.End to → Past s at to
+entry_past : (p : Profile) (levels : ℕ) (s : List ℕ) (at start end to : ℕ) → string_at s at ≡ Ok (text_of start end) → value_at p levels s end ≡ Ok to → Past s at to
 entry_past p levels s at start end to k v = let w = string_whole_inv s at start end k in omega (arith, value_ends p levels s end to v)
 
 -- a search that has passed the entries up to an offset: it found the key among theirs, or goes on there
 abbrev Passed : List ℕ → List ℕ → ℕ → ℕ → Bool → Type 0
-Passed s key first at true = (v : ℕ) × (v ≤ at) × (entry_at s key first ≡ Entry.At v)
+Passed s key first at true = (v : ℕ) × (v ≤ at) × (entry_at s key first ≡ Some v)
 Passed s key first at false = entry_at s key first ≡ entry_at s key at
 
 module _ (p : Profile) (levels : ℕ) (s : List ℕ) (first : ℕ) (key : List ℕ) where
@@ -66,7 +66,7 @@ module _ (p : Profile) (levels : ℕ) (s : List ℕ) (first : ℕ) (key : List �
       go false e false q = e ∙ sym (find_more s key k start end x q) ∙ ap (λ (j : ℕ). entry_at s key j) skipped
 
 -- the search finds the key at an offset itself, unless an earlier one is equal
-used_agrees : (p : Profile) (levels : ℕ) (s : List ℕ) (first at : ℕ) (keys : List (List ℕ)) → Earlier (value_at p levels s) s first at keys → (start end : ℕ) → string_at s at ≡ Text.Bytes start end → used_at s first (slice s start end) end ≡ is_used (slice s start end) keys
+used_agrees : (p : Profile) (levels : ℕ) (s : List ℕ) (first at : ℕ) (keys : List (List ℕ)) → Earlier (value_at p levels s) s first at keys → (start end : ℕ) → string_at s at ≡ Ok (text_of start end) → used_at s first (slice s start end) end ≡ is_used (slice s start end) keys
 unfolding used_at
 used_agrees p levels s first at keys c start end x = go (is_used (slice s start end) keys) (find_passed p levels s first (slice s start end) at keys c)
   where
@@ -132,7 +132,7 @@ module _ (p : Profile) (levels : ℕ) (s : List ℕ) (k : Seen) (at : ℕ) (keys
           rw (lt-leb at first (omega (arith, earlier_forward p levels s first j ks c, entry_past p levels s j start end at x v)))
           (by_top (slice s start end ∷ ks) (λ e. let z : ◌≡◌ {A = ℕ} 0 1 = cc in omega arith) t)
 
-  module _ (start end : ℕ) (text : string_at s at ≡ Text.Bytes start end) where
+  module _ (start end : ℕ) (text : string_at s at ≡ Ok (text_of start end)) where
     abbrev key : List ℕ
     key = slice s start end
 
@@ -150,7 +150,7 @@ module _ (p : Profile) (levels : ℕ) (s : List ℕ) (k : Seen) (at : ℕ) (keys
             new false q = refl
 
     -- what is kept after a key that is allowed
-    kept_above : is_above key keys ≡ true → (to : ℕ) → value_at p levels s end ≡ Walk.End to → Kept (value_at p levels s) s (risen s k start end) to (key ∷ keys)
+    kept_above : is_above key keys ≡ true → (to : ℕ) → value_at p levels s end ≡ Ok to → Kept (value_at p levels s) s (risen s k start end) to (key ∷ keys)
     kept_above h to v =
         let w = string_whole_inv s at start end text in
         record {
@@ -161,7 +161,7 @@ module _ (p : Profile) (levels : ℕ) (s : List ℕ) (k : Seen) (at : ℕ) (keys
           all = marked_more k.marks key keys kept.all;
         }
 
-    kept_below : is_above key keys ≡ false → (to : ℕ) → value_at p levels s end ≡ Walk.End to → Kept (value_at p levels s) s (marked k key) to (key ∷ keys)
+    kept_below : is_above key keys ≡ false → (to : ℕ) → value_at p levels s end ≡ Ok to → Kept (value_at p levels s) s (marked k key) to (key ∷ keys)
     kept_below h to v =
         record {
           earlier = more kept.earlier text v;
@@ -182,14 +182,14 @@ module _ (p : Profile) (levels : ℕ) (s : List ℕ) (k : Seen) (at : ℕ) (keys
             under true q = clash (is_above key keys) (above_all greatest key keys v q) h
             under false q = refl
 
-    pub key_allowed : is_text key ≡ true → (seen : Seen) → key_at p s k at start end ≡ KeyCheck.Allowed seen → (key_fault p keys key ≡ 0) × ((to : ℕ) → value_at p levels s end ≡ Walk.End to → Kept (value_at p levels s) s seen to (key ∷ keys))
+    pub key_allowed : is_text key ≡ true → (seen : Seen) → key_at p s k at start end ≡ Ok seen → (key_fault p keys key ≡ None) × ((to : ℕ) → value_at p levels s end ≡ Ok to → Kept (value_at p levels s) s seen to (key ∷ keys))
     unfolding key_at
     key_allowed is seen e =
         let r = go (is_above key keys) refl (is_used key keys) refl p (rw (above_agrees key, repeated_agrees) at e) in
         (fault_of_text p keys key is ∙ r.0, r.1)
       where
-        go : (t : Bool) → is_above key keys ≡ t → (u : Bool) → is_used key keys ≡ u → (q : Profile) → cond t (KeyCheck.Allowed (risen s k start end)) (cond u (KeyCheck.Refused 8) (unsorted q (marked k key))) ≡ KeyCheck.Allowed seen
-            → (cond u 8 (order_fault q t) ≡ 0) × ((to : ℕ) → value_at p levels s end ≡ Walk.End to → Kept (value_at p levels s) s seen to (key ∷ keys))
+        go : (t : Bool) → is_above key keys ≡ t → (u : Bool) → is_used key keys ≡ u → (q : Profile) → cond t (Ok (risen s k start end)) (cond u (Err (fault Cause.RepeatedKey at)) (unsorted q at (marked k key))) ≡ Ok seen
+            → (cond u (Some Cause.RepeatedKey) (order_fault q t) ≡ None) × ((to : ℕ) → value_at p levels s end ≡ Ok to → Kept (value_at p levels s) s seen to (key ∷ keys))
         go true h true c q e = clash (is_used key keys) c (above_unused key keys h)
         go true h false c Profile.Loose e = let n : risen s k start end ≡ seen = cc in (refl, λ to v. subst (λ (x : Seen). Kept (value_at p levels s) s x to (key ∷ keys)) n (kept_above h to v))
         go true h false c Profile.Strict e = let n : risen s k start end ≡ seen = cc in (refl, λ to v. subst (λ (x : Seen). Kept (value_at p levels s) s x to (key ∷ keys)) n (kept_above h to v))
@@ -197,17 +197,17 @@ module _ (p : Profile) (levels : ℕ) (s : List ℕ) (k : Seen) (at : ℕ) (keys
         go false h false c Profile.Strict e = let z : ◌≡◌ {A = ℕ} 0 1 = cc in absurd (omega arith)
         go false h false c Profile.Loose e = let n : marked k key ≡ seen = cc in (refl, λ to v. subst (λ (x : Seen). Kept (value_at p levels s) s x to (key ∷ keys)) n (kept_below h to v))
 
-    pub key_refused : is_text key ≡ true → (code : ℕ) → key_at p s k at start end ≡ KeyCheck.Refused code → (key_fault p keys key ≡ code) × (code ≡ 0 → ⊥)
+    pub key_refused : is_text key ≡ true → (f : Fault) → key_at p s k at start end ≡ Err f → (c : Cause) × (key_fault p keys key ≡ Some c) × (fault c at ≡ f)
     unfolding key_at
-    key_refused is code e =
+    key_refused is f e =
         let r = go (is_above key keys) (is_used key keys) p (rw (above_agrees key, repeated_agrees) at e) in
-        (fault_of_text p keys key is ∙ r.0, r.1)
+        (r.0, fault_of_text p keys key is ∙ r.1, r.2)
       where
-        go : (t u : Bool) (q : Profile) → cond t (KeyCheck.Allowed (risen s k start end)) (cond u (KeyCheck.Refused 8) (unsorted q (marked k key))) ≡ KeyCheck.Refused code → (cond u 8 (order_fault q t) ≡ code) × (code ≡ 0 → ⊥)
+        go : (t u : Bool) (q : Profile) → cond t (Ok (risen s k start end)) (cond u (Err (fault Cause.RepeatedKey at)) (unsorted q at (marked k key))) ≡ Err f → (c : Cause) × (cond u (Some Cause.RepeatedKey) (order_fault q t) ≡ Some c) × (fault c at ≡ f)
         go true u q e = let z : ◌≡◌ {A = ℕ} 0 1 = cc in absurd (omega arith)
-        go false true q e = let n : 8 ≡ code = cc in omega arith
+        go false true q e = (Cause.RepeatedKey, refl, cc)
         go false false Profile.Loose e = let z : ◌≡◌ {A = ℕ} 0 1 = cc in absurd (omega arith)
-        go false false Profile.Strict e = let n : 11 ≡ code = cc in omega arith
+        go false false Profile.Strict e = (Cause.UnsortedKey, refl, cc)
 
 -- ---- each way through the check of a key
 module _ (s : List ℕ) (k : Seen) (at : ℕ) where
@@ -220,15 +220,15 @@ module _ (s : List ℕ) (k : Seen) (at : ℕ) where
   above_greatest key h = rw (lt-leb at k.first h) refl
 
   module _ (start end : ℕ) (p : Profile) where
-    pub key_above_all : above_at s k at (slice s start end) ≡ true → KeyCheck.Allowed (risen s k start end) ≡ key_at p s k at start end
+    pub key_above_all : above_at s k at (slice s start end) ≡ true → Ok (risen s k start end) ≡ key_at p s k at start end
     unfolding key_at
     key_above_all a = rw a refl
 
-    pub key_again : above_at s k at (slice s start end) ≡ false → repeated_at s k (slice s start end) end ≡ true → KeyCheck.Refused 8 ≡ key_at p s k at start end
+    pub key_again : above_at s k at (slice s start end) ≡ false → repeated_at s k (slice s start end) end ≡ true → Err (fault Cause.RepeatedKey at) ≡ key_at p s k at start end
     unfolding key_at
     key_again a u = rw (a, u) refl
 
-    pub key_unsorted : (q : Profile) → p ≡ q → above_at s k at (slice s start end) ≡ false → repeated_at s k (slice s start end) end ≡ false → unsorted q (marked k (slice s start end)) ≡ key_at p s k at start end
+    pub key_unsorted : (q : Profile) → p ≡ q → above_at s k at (slice s start end) ≡ false → repeated_at s k (slice s start end) end ≡ false → unsorted q at (marked k (slice s start end)) ≡ key_at p s k at start end
     unfolding key_at
     key_unsorted q e a u = rw (a, u, e) refl
 

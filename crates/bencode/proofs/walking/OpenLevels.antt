@@ -8,23 +8,21 @@ use native.Mathlib.Omega.{arith}
 use lib.ListN.{length, get_or, set}
 use lib.Seq.{get_or-set_same, get_or-set_other}
 use Rattle.bencode.specs.declared.fault.Fault.{Fault}
-use Rattle.bencode.specs.declared.fault.Walk.{Walk}
+use Rattle.bencode.specs.declared.tokens.Bracket.{Bracket}
 use Rattle.bencode.specs.declared.tokens.Level.{Level}
-use Rattle.bencode.specs.declared.key.Seen.{Seen}
 use Rattle.bencode.specs.declared.profile.Profile.{Profile}
 use Rattle.bencode.specs.Depth.{largest_depth}
 use Rattle.bencode.specs.Flat.{outside}
+use Rattle.bencode.specs.KeySearch.{Sound}
 use Rattle.bencode.specs.Walk.{list_at, dictionary_from, value_at}
 use Rattle.bencode.proofs.walking.KeyLaws.{Kept}
+use Rattle.bencode.specs.Fault.{Walk}
+use Rattle.std.specs.Prelude.{Ok, Err}
 
 -- goes on after a value, or ends with its fault
 abbrev pub and_then : Walk → (ℕ → Walk) → Walk
-and_then (Walk.End e) rest = rest e
-and_then (Walk.Fault f) rest = Walk.Fault f
-
--- the greatest key that is kept lies in the payload
-abbrev pub Sound : List ℕ → Seen → Type 0
-Sound s seen = (seen.start ≤ seen.end) × (seen.end ≤ length s)
+and_then (Ok e) rest = rest e
+and_then (Err f) rest = Err f
 
 module _ (p : Profile) (s : List ℕ) where
   -- what the payload's value comes to
@@ -35,18 +33,18 @@ module _ (p : Profile) (s : List ℕ) where
   -- payload's value comes to
   pub data Under (row : List Level) : Level → ℕ → ℕ → ℕ → Type 0 where
     outermost : {x : Level} → Sound s x.seen → Under row x 0 largest_depth 0
-    in_list : {x : Level} {d l u v : ℕ} → Sound s x.seen → Under row (get_or row d outside) d (suc l) u → x.mark ≡ 108
+    in_list : {x : Level} {d l u v : ℕ} → Sound s x.seen → Under row (get_or row d outside) d (suc l) u → x.bracket ≡ Bracket.List
         → value_at p (suc l) s u ≡ and_then (value_at p l s v) (list_at p l s) → Under row x (suc d) l v
-    in_dictionary : {x : Level} {d l u v : ℕ} (keys : List (List ℕ)) → Sound s x.seen → Under row (get_or row d outside) d (suc l) u → x.mark ≡ 100
+    in_dictionary : {x : Level} {d l u v : ℕ} (keys : List (List ℕ)) → Sound s x.seen → Under row (get_or row d outside) d (suc l) u → x.bracket ≡ Bracket.Dictionary
         → value_at p (suc l) s u ≡ and_then (value_at p l s v) (λ e. dictionary_from p (value_at p l s) s e keys)
-        → ((to : ℕ) → value_at p l s v ≡ Walk.End to → Kept (value_at p l s) s x.seen to keys) → Under row x (suc d) l v
+        → ((to : ℕ) → value_at p l s v ≡ Ok to → Kept (value_at p l s) s x.seen to keys) → Under row x (suc d) l v
 
   -- a value has ended or a level has opened, and the rest of the level goes on at an offset
   pub data Rest (row : List Level) : Level → ℕ → ℕ → Type 0 where
-    over : {x : Level} {at : ℕ} → Sound s x.seen → FirstValue ≡ Walk.End at → Rest row x 0 at
-    rest_list : {x : Level} {d l u at : ℕ} → Sound s x.seen → Under row (get_or row d outside) d (suc l) u → x.mark ≡ 108
+    over : {x : Level} {at : ℕ} → Sound s x.seen → FirstValue ≡ Ok at → Rest row x 0 at
+    rest_list : {x : Level} {d l u at : ℕ} → Sound s x.seen → Under row (get_or row d outside) d (suc l) u → x.bracket ≡ Bracket.List
         → value_at p (suc l) s u ≡ list_at p l s at → Rest row x (suc d) at
-    rest_dictionary : {x : Level} {d l u at : ℕ} (keys : List (List ℕ)) → Under row (get_or row d outside) d (suc l) u → x.mark ≡ 100
+    rest_dictionary : {x : Level} {d l u at : ℕ} (keys : List (List ℕ)) → Under row (get_or row d outside) d (suc l) u → x.bracket ≡ Bracket.Dictionary
         → value_at p (suc l) s u ≡ dictionary_from p (value_at p l s) s at keys → Kept (value_at p l s) s x.seen at keys → Rest row x (suc d) at
 
   abbrev Next : List Level → ℕ → Level → Bool → ℕ → Type 0
@@ -98,13 +96,13 @@ module _ (p : Profile) (s : List ℕ) where
   under_kept row x d l v h o = subst (λ (z : Level). Under (set row d x) z d l v) (sym (get_or-set_same row d x outside h)) (under_set row x d l v d x (omega arith) o)
 
   -- a fault of the value under way is that of the payload's value
-  pub under_fault : (row : List Level) (x : Level) (d l v : ℕ) (f : Fault) → Under row x d l v → value_at p l s v ≡ Walk.Fault f → Walk.Fault f ≡ FirstValue
+  pub under_fault : (row : List Level) (x : Level) (d l v : ℕ) (f : Fault) → Under row x d l v → value_at p l s v ≡ Err f → Err f ≡ FirstValue
   under_fault row x d l v f (outermost w) q = sym q
   under_fault row x d l v f (in_list {d = c} {u = u} w o m e) q = under_fault row (get_or row c outside) c (suc l) u f o (e ∙ ap (λ (w : Walk). and_then w (list_at p l s)) q)
   under_fault row x d l v f (in_dictionary {d = c} {u = u} keys w o m e k) q = under_fault row (get_or row c outside) c (suc l) u f o (e ∙ ap (λ (w : Walk). and_then w (λ t. dictionary_from p (value_at p l s) s t keys)) q)
 
   -- the end of the value under way leaves the rest of its level
-  pub under_end : (row : List Level) (x : Level) (d l v end : ℕ) → Under row x d l v → value_at p l s v ≡ Walk.End end → Rest row x d end
+  pub under_end : (row : List Level) (x : Level) (d l v end : ℕ) → Under row x d l v → value_at p l s v ≡ Ok end → Rest row x d end
   under_end row x d l v end (outermost w) q = over w q
   under_end row x d l v end (in_list {d = c} {u = u} w o m e) q = rest_list w o m (e ∙ ap (λ (w : Walk). and_then w (list_at p l s)) q)
   under_end row x d l v end (in_dictionary {d = c} {u = u} keys w o m e k) q = rest_dictionary keys o m (e ∙ ap (λ (w : Walk). and_then w (λ t. dictionary_from p (value_at p l s) s t keys)) q) (k end q)

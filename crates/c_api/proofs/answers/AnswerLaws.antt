@@ -6,27 +6,28 @@ use mathlib.Core.Path.{◌≡◌, refl, sym, ap, subst, ◌∙◌}
 use mathlib.Core.List.{List}
 use native.Mathlib.Omega.{arith}
 use lib.ListN.{length}
-use Rattle.ipc.specs.declared.writer.Written.{Written}
 use Rattle.ipc.specs.Keys.{Listed, is_written}
 use Rattle.ipc.specs.Writer.{buffer_after, frame_of, message_fault, write_answer, Leaves}
 use Rattle.ipc.proofs.listed.KeyLaws.{listed_past}
-use Rattle.c_api.specs.declared.offered.Offered.{Offered}
 use Rattle.c_api.specs.declared.written.WriteAnswer.{WriteAnswer}
 use Rattle.c_api.specs.Written.{written_numbers, WrittenAs}
-use Rattle.c_api.specs.Offered.{unknown_code, offered_answer, offered_payload}
+use Rattle.c_api.specs.Offered.{Offered, unknown_refusal, offered_answer, offered_payload}
+use Rattle.ipc.specs.declared.writer.WriteRefusal.{WriteRefusal}
+use Rattle.std.specs.Prelude.{Result, Err, None, Some}
+use Rattle.ipc.specs.declared.writer.WriteRefusal.{WriteRefusal}
 
 -- what a writer did, by numbers
-pub leaves_numbers : {answer w : Written} {payload before after : List ℕ} {r : WriteAnswer} → Leaves answer payload before w after → r ≡ written_numbers w → WrittenAs answer payload before r after
+pub leaves_numbers : {answer w : Result ℕ WriteRefusal} {payload before after : List ℕ} {r : WriteAnswer} → Leaves answer payload before w after → r ≡ written_numbers w → WrittenAs answer payload before r after
 leaves_numbers {payload = payload} {before = before} o e = record {
   answered = e ∙ ap written_numbers o.answered;
-  buffer = o.buffer ∙ ap (λ (x : Written). buffer_after x (frame_of payload) before) o.answered;
+  buffer = o.buffer ∙ ap (λ (x : Result ℕ WriteRefusal). buffer_after x (frame_of payload) before) o.answered;
 }
 
 -- a refusal, by numbers
-pub refused_numbers : (answer : Written) (payload before : List ℕ) (code : ℕ) {r : WriteAnswer} → answer ≡ Written.Refused code → r ≡ written_numbers (Written.Refused code) → WrittenAs answer payload before r before
-refused_numbers answer payload before code h e = record {
+pub refused_numbers : (answer : Result ℕ WriteRefusal) (payload before : List ℕ) (refusal : WriteRefusal) {r : WriteAnswer} → answer ≡ Err refusal → r ≡ written_numbers (Err refusal) → WrittenAs answer payload before r before
+refused_numbers answer payload before refusal h e = record {
   answered = e ∙ ap written_numbers (sym h);
-  buffer = ap (λ (x : Written). buffer_after x (frame_of payload) before) (sym h);
+  buffer = ap (λ (x : Result ℕ WriteRefusal). buffer_after x (frame_of payload) before) (sym h);
 }
 
 -- a number over that of every key is not written
@@ -37,13 +38,13 @@ unwritten n h =
     let past : 20 ≤ n - 1 = omega (arith, h) in
     ap (λ (x : Listed). x.written) (listed_past n some past)
 
-pub key_refused : (n : ℕ) → 255 < n → (value : Offered) (s : List ℕ) (tag room : ℕ) → offered_answer n value s tag room ≡ Written.Refused 40
-unfolding write_answer message_fault unknown_code
-key_refused n h (Offered.Given given) s tag room = rw (unwritten n h) refl
-key_refused n h Offered.Unknown s tag room = rw (unwritten n h) refl
+pub key_refused : (n : ℕ) → 255 < n → (value : Offered) (s : List ℕ) (tag room : ℕ) → offered_answer n value s tag room ≡ Err WriteRefusal.Key
+unfolding write_answer message_fault unknown_refusal
+key_refused n h (Some given) s tag room = rw (unwritten n h) refl
+key_refused n h None s tag room = rw (unwritten n h) refl
 
 -- what is done with a value is done with what is equal to it
-pub leaves_as : (key tag : ℕ) (s before after : List ℕ) (w : Written) (other : Offered) {value : Offered} → value ≡ other
+pub leaves_as : (key tag : ℕ) (s before after : List ℕ) (w : Result ℕ WriteRefusal) (other : Offered) {value : Offered} → value ≡ other
     → Leaves (offered_answer key other s tag (length before)) (offered_payload key other s tag) before w after
     → Leaves (offered_answer key value s tag (length before)) (offered_payload key value s tag) before w after
 leaves_as key tag s before after w other e o = subst (λ (x : Offered). Leaves (offered_answer key x s tag (length before)) (offered_payload key x s tag) before w after) (sym e) o

@@ -7,6 +7,7 @@ use mathlib.Core.List.{List, [], ◌∷◌, ◌++◌, append_assoc, append-nil}
 use native.Mathlib.Omega.{arith}
 use borrow.Author.Tests.{eq-eqb, ne_eqb}
 use lib.ListN.{length, length-append, length-drop}
+use Rattle.std.specs.Prelude.{Option, None, Some}
 use Rattle.octets.specs.Bytes.{byte_at, slice, less, Begins}
 use Rattle.octets.specs.Numerals.{decimal}
 use Rattle.bencode.specs.declared.profile.Profile.{Profile}
@@ -129,16 +130,16 @@ module _ (levels : ℕ) (s : List ℕ) (write : ℕ → List ℕ) (writes : (v :
       ∙ ap (λ (x : List ℕ). encode_string k ++ x) (item_is v 0 stop (stop + length (encode v)) a c ∙ unfold values_from in append-nil (encode (sorted v)))
 
   module _ (es : Entries) (first end : ℕ) (a : AllEntries Profile.Loose (WellFormed Profile.Loose levels) [] es) (h : Begins s first (encode_entries es ++ (101 ∷ [])) end) where
-    chosen_is : (b : Bound) (n : ℕ) (e : Pick) (r : Next) → Picked levels s e r → Follows es b r → count (past b (sorted_entries es)) ≤ suc n
+    chosen_is : (b : Bound) (n : ℕ) (e : Option Pick) (r : Next) → Picked levels s e r → Follows es b r → count (past b (sorted_entries es)) ≤ suc n
         → ((c : Bound) → count (past c (sorted_entries es)) ≤ n → selected write s first n c ≡ encode_entries (past c (sorted_entries es)))
         → chosen write s e (λ c. selected write s first n c) ≡ encode_entries (past b (sorted_entries es))
     unfolding Picked count encode
-    chosen_is b n Pick.None none p f l rec = sym (ap encode_entries f)
-    chosen_is b n Pick.None (next k v) p f l rec = absurd p
-    chosen_is b n (Pick.Entry at begin stop) none p f l rec = absurd p
-    chosen_is b n (Pick.Entry at begin stop) (next k v) p f l rec =
+    chosen_is b n None none p f l rec = sym (ap encode_entries f)
+    chosen_is b n None (next k v) p f l rec = absurd p
+    chosen_is b n (Some o) none p f l rec = absurd p
+    chosen_is b n (Some o) (next k v) p f l rec =
         let left : count (past (up_to k) (sorted_entries es)) ≤ n = omega (arith, ap count f) in
-        ap₂ (λ (x l : List ℕ). x ++ selected write s first n (up_to l)) (entry_is k v at stop p.3 p.1 p.2) p.0
+        ap₂ (λ (x l : List ℕ). x ++ selected write s first n (up_to l)) (entry_is k v o.at o.end p.3 p.1 p.2) p.0
         ∙ ap (λ (x : List ℕ). (encode_string k ++ encode (sorted v)) ++ x) (rec (up_to k) left)
         ∙ append_assoc (encode_string k) (encode (sorted v)) (encode_entries (past (up_to k) (sorted_entries es)))
         ∙ sym (ap encode_entries f)
@@ -147,7 +148,7 @@ module _ (levels : ℕ) (s : List ℕ) (write : ℕ → List ℕ) (writes : (v :
     unfolding selected Picked
     selected_is zero b l = sym (none_left (past b (sorted_entries es)) l)
     selected_is (suc n) b l =
-        chosen_is b n (least_at s b first Pick.None) (least b none es) (least_picked levels s end b es [] first Pick.None none a h tt) (selects_next levels es b a) l (λ c m. selected_is n c m)
+        chosen_is b n (least_at s b first None) (least b none es) (least_picked levels s end b es [] first None none a h tt) (selects_next levels es b a) l (λ c m. selected_is n c m)
 
     fits : length (encode_entries es) ≤ length s
     fits = inside_payload s (encode_entries es) first end h

@@ -1,18 +1,19 @@
 -- Laws of what is written, one for each way through the functions that write.
 -- Assumes nothing.
-use Prim.Native.Nat.{ℕ, zero, suc, ◌+◌, ◌-◌, ◌≤◌, ◌<◌}
+use Prim.Native.Nat.{ℕ, zero, suc, ◌+◌, ◌-◌, ◌≤◌}
 use mathlib.Core.Path.{◌≡◌, refl, sym, ap, subst, ◌∙◌}
 use mathlib.Core.Bool.{true, false}
 use mathlib.Core.List.{List, [], ◌∷◌, ◌++◌, flatten, append-nil}
 use native.Mathlib.Omega.{arith}
 use borrow.Author.Tests.{eq-eqb, ne_eqb}
 use lib.ListN.{length, length-append, take, drop, drop_of_length-le}
-use Rattle.octets.specs.Bytes.{byte_at, slice}
+use Rattle.std.specs.Prelude.{Option, None, Some}
+use Rattle.octets.specs.Bytes.{byte_at}
 use Rattle.octets.specs.Put.{Wrote, Put}
 use Rattle.octets.proofs.writing.PutLaws.{Writing, wrote_length, wrote_then, put_wrote, start, room_next, next, finish}
 use Rattle.bencode.specs.Skip.{skip_value}
 use Rattle.canonical.specs.declared.select.Pick.{Pick}
-use Rattle.canonical.specs.SortWalk.{Bound, nothing, up_to, bound_of, least_at, rises_at, values_from, chosen, selected, entries_at, copied_at, sorted_at}
+use Rattle.canonical.specs.SortWalk.{Bound, nothing, bound_of, least_at, rises_at, values_from, chosen, selected, entries_at, copied_at, sorted_at}
 use Rattle.canonical.proofs.walks.SortWalks.{at_copied, at_list, at_dictionary}
 
 take_none : (n : ℕ) (l : List ℕ) → l ≡ [] → take n l ≡ []
@@ -65,10 +66,9 @@ module _ (value : ℕ → List ℕ) (s : List ℕ) (at : ℕ) where
   items_end_lem zero e = refl
   items_end_lem (suc n) e = rw (eq-eqb (byte_at s at) 101 e) refl
 
-  pub items_more : (n : ℕ) → 0 < n → (byte_at s at ≡ 101 → ⊥) → values_from value s n at ≡ value at ++ values_from value s (n - 1) (at + length (value at))
+  pub items_more : (n m : ℕ) → n ≡ suc m → (byte_at s at ≡ 101 → ⊥) → values_from value s n at ≡ value at ++ values_from value s m (at + length (value at))
   unfolding values_from
-  items_more zero h e = absurd (omega arith)
-  items_more (suc n) h e = let d : n ≡ suc n - 1 = omega arith in rw (ne_eqb (byte_at s at) 101 e) refl ∙ ap (λ (k : ℕ). value at ++ values_from value s k (at + length (value at))) d
+  items_more n m d e = rw (d, ne_eqb (byte_at s at) 101 e) refl
 
 -- ---- the entries of a dictionary
 module _ (value : ℕ → List ℕ) (s : List ℕ) (first : ℕ) where
@@ -86,18 +86,14 @@ module _ (value : ℕ → List ℕ) (s : List ℕ) (first : ℕ) where
     selected_over zero h = refl
     selected_over (suc n) h = absurd (omega arith)
 
-    pub selected_none : (n : ℕ) (p : Pick) → p ≡ least_at s b first Pick.None → p ≡ Pick.None → selected value s first n b ≡ []
+    pub selected_none : (n : ℕ) (p : Option Pick) → p ≡ least_at s b first None → p ≡ None → selected value s first n b ≡ []
     unfolding selected
     selected_none zero p h e = refl
-    selected_none (suc n) p h e = ap (λ (x : Pick). chosen value s x (λ c. selected value s first n c)) (sym h ∙ e)
+    selected_none (suc n) p h e = ap (λ (x : Option Pick). chosen value s x (λ c. selected value s first n c)) (sym h ∙ e)
 
-    pub selected_more : (n : ℕ) (p : Pick) (at begin stop : ℕ) → 0 < n → p ≡ least_at s b first Pick.None → p ≡ Pick.Entry at begin stop → selected value s first n b ≡ values_from value s 2 at ++ selected value s first (n - 1) (bound_of s (Pick.Entry at begin stop))
+    pub selected_more : (n m : ℕ) (p : Option Pick) (q : Pick) → n ≡ suc m → p ≡ least_at s b first None → p ≡ Some q → selected value s first n b ≡ values_from value s 2 q.at ++ selected value s first m (bound_of s (Some q))
     unfolding selected
-    selected_more zero p at begin stop l h e = absurd (omega arith)
-    selected_more (suc n) p at begin stop l h e =
-        let d : n ≡ suc n - 1 = omega arith in
-        ap (λ (x : Pick). chosen value s x (λ c. selected value s first n c)) (sym h ∙ e)
-        ∙ ap (λ (k : ℕ). values_from value s 2 at ++ selected value s first k (up_to (slice s begin stop))) d
+    selected_more n m p q d h e = rw d (ap (λ (x : Option Pick). chosen value s x (λ c. selected value s first m c)) (sym h ∙ e))
 
 -- ---- bytes being written, by what is left of them
 -- from the offset i of a buffer the bytes `all` are being written: so far it is b, and from the offset j on `left` is left

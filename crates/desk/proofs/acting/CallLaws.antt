@@ -1,8 +1,9 @@
 -- Laws of a call's outcome: the three ways through it, what its function returns and leaves in each, and one proof by cases for
 -- every statement about all calls.
 -- Assumes nothing.
+use Rattle.std.specs.Prelude.{Result, Ok}
 use Prim.Native.Nat.{ℕ, ◌≤◌, ◌<◌}
-use mathlib.Core.Path.{◌≡◌, refl, sym, ap, ◌∙◌}
+use mathlib.Core.Path.{◌≡◌, refl, sym, ap, subst, ◌∙◌}
 use mathlib.Core.Bool.{true, false, cond}
 use mathlib.Core.List.{List, []}
 use native.Mathlib.Omega.{arith}
@@ -13,24 +14,27 @@ use Rattle.octets.specs.Put.{Put}
 use Rattle.octets.proofs.writing.PutLaws.{put_wrote, wrote_front}
 use Rattle.desk.specs.declared.call.Call.{Call}
 use Rattle.desk.specs.declared.record.Desk.{Desk}
-use Rattle.desk.specs.declared.done.Done.{Done}
+use Rattle.desk.specs.declared.done.Accepted.{Accepted as Answer}
+use Rattle.desk.specs.declared.done.Refusal.{Refusal}
+use Rattle.desk.specs.Codes.{refusal_code, answer_code, answer_count}
 use Rattle.desk.specs.Record.{sound}
 use Rattle.desk.specs.Command.{Command, frames_of}
 use Rattle.desk.specs.Refusal.{call_fault}
 use Rattle.desk.specs.Plan.{Outcome, deferred, desk_after, commands_of, plan}
-use Rattle.desk.specs.Calls.{refused, accepted, decided, framed, delivered, outcome, returned, buffer_after, Returned}
+use Rattle.desk.specs.Calls.{refused, accepted, decided, framed, delivered, outcome, buffer_after, Answered}
 use Rattle.desk.proofs.general.Cases.{by_cases, cond_cases}
 use Rattle.desk.proofs.acting.RefusalLaws.{Accepted, accepted_call, fault_code, fault_sound}
 
--- ---- what the function returns and leaves
+-- ---- what the function answers and leaves
 -- nothing is sent
-pub nothing_sent : {o : Outcome (List ℕ)} {before : List ℕ} {r : Done} (p : Outcome (List ℕ)) → o ≡ p → p.sent ≡ [] → r ≡ returned p → Returned o before r before
+pub nothing_sent : {o : Outcome (List ℕ)} {before : List ℕ} {r : Result Answer Refusal} (p : Outcome (List ℕ)) → o ≡ p → p.sent ≡ [] → answer_code r ≡ p.code → answer_count r ≡ 0
+    → Answered o before r before
 unfolding buffer_after
-nothing_sent {before = before} p e n q = record { answered = q ∙ ap returned (sym e); buffer = rw (e, n) refl }
+nothing_sent {before = before} p e n a k = record { code = rw e a; count = rw (e, n) k; buffer = rw (e, n) refl }
 
 -- the same outcome
-pub returned_as : {o p : Outcome (List ℕ)} {before after : List ℕ} {r : Done} → o ≡ p → Returned p before r after → Returned o before r after
-returned_as {before = before} q w = record { answered = w.answered ∙ ap returned (sym q); buffer = w.buffer ∙ ap (λ (o : Outcome (List ℕ)). buffer_after o before) (sym q) }
+pub answered_as : {o p : Outcome (List ℕ)} {before after : List ℕ} {r : Result Answer Refusal} → o ≡ p → Answered p before r after → Answered o before r after
+answered_as {before} {after} {r} q w = subst (λ (o : Outcome (List ℕ)). Answered o before r after) (sym q) w
 
 module _ (d next : Desk) (bytes before : List ℕ) where
   pub delivered_short : length before < length bytes → delivered (length before) d (accepted next bytes) ≡ refused 34 d
@@ -38,13 +42,13 @@ module _ (d next : Desk) (bytes before : List ℕ) where
   delivered_short h = rw (lt-leb (length bytes) (length before) h) refl
 
   pub delivered_put : {after : List ℕ} {n : ℕ} → length bytes ≤ length before → Put before 0 bytes after n
-      → Returned (delivered (length before) d (accepted next bytes)) before (record { code = 0; count = n; desk = next }) after
-  unfolding delivered returned buffer_after
+      → Answered (delivered (length before) d (accepted next bytes)) before (Ok (Answer.Sent n)) after
+  unfolding delivered buffer_after
   delivered_put {after} {n} h p =
       let w = put_wrote (omega arith) p in
       let fits : leb (length bytes) (length before) ≡ true = le-leb (length bytes) (length before) h in
       let counted : n ≡ length bytes = omega (arith, w.ended) in
-      record { answered = rw (fits, counted) refl; buffer = rw fits (wrote_front h w) }
+      record { code = rw fits refl; count = rw (fits, counted) refl; buffer = rw fits (wrote_front h w) }
 
 -- frames that have room
 pub delivered_whole : (room : ℕ) (d next : Desk) (bytes : List ℕ) → length bytes ≤ room → delivered room d (accepted next bytes) ≡ accepted next bytes
@@ -109,3 +113,43 @@ module _ (P : Outcome (List Command) → Type 0) (c : Call) (room : ℕ) (d : De
       (λ _ e. record { by = decided c d; is = rw e refl; holds = decided_holds })
       (λ _ e. record { by = refused 34 d; is = rw e refl; holds = refusal 34 (room_code d) })
       refl
+
+-- ---- the record after a call, by its answer's number
+abbrev Recorded : Call → Desk → Outcome (List Command) → Type 0
+Recorded c d o = (o.code ≤ 1 → o.desk ≡ desk_after c d) × (2 ≤ o.code → o.desk ≡ d)
+
+plan_recorded : (c : Call) (d : Desk) → Recorded c d (plan c d)
+unfolding plan
+plan_recorded c d = cond_cases (Recorded c d) (deferred c d) (λ _. (λ _. refl, λ h. absurd (omega arith))) (λ _. (λ _. refl, λ h. absurd (omega arith)))
+
+module _ (c : Call) (room : ℕ) (d : Desk) where
+  recorded : Comes (Recorded c d) c room d
+  recorded = outcome_cases (Recorded c d) c room d (λ n k. (λ h. absurd (omega (arith, k.large)), λ _. refl)) (λ _. plan_recorded c d)
+
+  pub outcome_changes : (outcome c room d).code ≤ 1 → (outcome c room d).desk ≡ desk_after c d
+  unfolding framed
+  outcome_changes h =
+      let k = recorded in
+      ap (λ (o : Outcome (List ℕ)). o.desk) k.is ∙ k.holds.0 (omega (arith, h, ap (λ (o : Outcome (List ℕ)). o.code) k.is))
+
+  pub outcome_keeps : 2 ≤ (outcome c room d).code → (outcome c room d).desk ≡ d
+  unfolding framed
+  outcome_keeps h =
+      let k = recorded in
+      ap (λ (o : Outcome (List ℕ)). o.desk) k.is ∙ k.holds.1 (omega (arith, h, ap (λ (o : Outcome (List ℕ)). o.code) k.is))
+
+-- an accepted answer has 0 or 1, a refusal 30 or more
+abbrev small_answer : Answer → Type 0
+small_answer a = let r : Result Answer Refusal = Ok a in answer_code r ≤ 1
+
+pub accepted_small : (a : Answer) → small_answer a
+accepted_small (Answer.Sent n) = omega arith
+accepted_small Answer.Deferred = omega arith
+
+pub refusal_large : (e : Refusal) → 2 ≤ refusal_code e
+refusal_large Refusal.Limit = omega arith
+refusal_large Refusal.Unwatched = omega arith
+refusal_large Refusal.Stands = omega arith
+refusal_large Refusal.NoneStands = omega arith
+refusal_large Refusal.Room = omega arith
+refusal_large Refusal.Record = omega arith

@@ -11,7 +11,8 @@ use Rattle.octets.specs.Put.{Wrote, Put}
 use Rattle.octets.proofs.writing.PutLaws.{put_wrote}
 use Rattle.desk.specs.declared.call.Call.{Call}
 use Rattle.desk.specs.declared.record.Desk.{Desk}
-use Rattle.desk.specs.Watch.{is_id}
+use Rattle.desk.specs.declared.lists.Pick.{Pick}
+use Rattle.desk.specs.Watch.{is_id, pick_ids}
 use Rattle.desk.specs.Record.{watched}
 use Rattle.desk.specs.Command.{Command, downlimit_key, start_key, stop_key, uplimit_key, no_tag, command_frame, frames_of, longest_frames}
 use Rattle.desk.specs.Refusal.{id_fits}
@@ -21,6 +22,7 @@ use Rattle.desk.proofs.writing.FrameParts.{raise_length, clear_length}
 use Rattle.desk.proofs.acting.RefusalLaws.{Accepted}
 use Rattle.desk.proofs.records.SoundLaws.{sound_parts}
 use Rattle.desk.proofs.watching.WatchLists.{has_id_lem}
+use Rattle.desk.proofs.watching.FilteredIds.{alone}
 
 -- one frame
 pub one_frame : (c : Command) → frames_of (c ∷ []) ≡ command_frame no_tag c
@@ -33,6 +35,10 @@ one_length c h = subst (λ (l : List ℕ). length l ≤ longest_frames) (sym (on
 -- an ID that is watched is a torrent ID
 pub watched_id : (c : Call) (d : Desk) (x : ℕ) → Accepted c d → id_fits (Call.Start x) d ≡ id_fits c d → is_id x ≡ true
 watched_id c d x ok e = has_id_lem x (watched d) (sound_parts d ok.is_sound).ids (rw e ok.id)
+
+-- it is the only one that is picked as such
+pub watched_alone : (c : Call) (d : Desk) (x : ℕ) → Accepted c d → id_fits (Call.Start x) d ≡ id_fits c d → pick_ids (Pick.Only x) (watched d) ≡ x ∷ []
+watched_alone c d x ok e = alone x (watched d) (sound_parts d ok.is_sound).ids (rw e ok.id)
 
 -- the frames of an accepted call are no longer than the longest
 pub commands_length : (c : Call) (d : Desk) → Accepted c d → length (frames_of (commands_of c d)) ≤ longest_frames

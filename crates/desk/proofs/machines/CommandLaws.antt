@@ -9,7 +9,7 @@ use lib.IntN.{ℤ}
 use lib.ListN.{length}
 use Rattle.desk.specs.Limit.{is_limit}
 use Rattle.desk.specs.Watch.{most_watched, is_id, all_ids}
-use Rattle.desk.specs.Command.{Command, listing}
+use Rattle.desk.specs.Command.{Command, four_commands, listing}
 use Rattle.desk.specs.Machine.{Machine, is_among, obey}
 use Rattle.desk.proofs.general.Cases.{and_true}
 
@@ -64,9 +64,6 @@ pub machine_path : (m n : Machine) → m.down ≡ n.down → m.up ≡ n.up → (
 machine_path m n p q r = λ i. record { down = p i; up = q i; runs = λ y. r y i }
 
 -- ---- the commands of a raise or a clear
-abbrev pub four_commands : ℤ → ℤ → List ℕ → List ℕ → List Command
-four_commands down up stops starts = Command.set_down down ∷ (Command.set_up up ∷ (listing Command.stop stops ++ listing Command.start starts))
-
 pub four_sendable : (down up : ℤ) (stops starts : List ℕ) → is_limit down ≡ true → is_limit up ≡ true → FewIds stops → FewIds starts
     → AllSendable (four_commands down up stops starts)
 four_sendable down up stops starts p q r s = (

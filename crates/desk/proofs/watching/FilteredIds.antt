@@ -60,3 +60,23 @@ marked_listed x q (w ∷ ws) k h =
     ∙ or-false (q w.running))
     (λ e g. ap (λ b. b || is_among x rest) (and-false (q w.running)) ∙ marked_listed x q ws k'.2 g)
     h
+
+-- with no ID again, a watched ID alone
+none_alone : (x : ℕ) (ws : List Watch) → has x ws ≡ false → filtered (λ w. eqb w.id x) ws ≡ []
+unfolding has filtered
+none_alone x [] h = refl
+none_alone x (w ∷ ws) h =
+    by_cases (λ b. (b || has x ws) ≡ false → cond b (w.id ∷ filtered (λ v. eqb v.id x) ws) (filtered (λ v. eqb v.id x) ws) ≡ []) (eqb w.id x)
+    (λ _ g. absurd (false≢true (sym g)))
+    (λ _ g. none_alone x ws g)
+    h
+
+pub alone : (x : ℕ) (ws : List Watch) → ids_ok ws ≡ true → has x ws ≡ true → filtered (λ w. eqb w.id x) ws ≡ x ∷ []
+unfolding has filtered
+alone x [] k h = absurd (false≢true h)
+alone x (w ∷ ws) k h =
+    let k' = ids_cons w ws k in
+    by_cases (λ b. (b || has x ws) ≡ true → cond b (w.id ∷ filtered (λ v. eqb v.id x) ws) (filtered (λ v. eqb v.id x) ws) ≡ x ∷ []) (eqb w.id x)
+    (λ e _. let same = eqb-true w.id x e in ap₂ (λ (y : ℕ) (l : List ℕ). y ∷ l) same (none_alone x ws (ap (λ n. has n ws) (sym same) ∙ k'.1)))
+    (λ _ g. alone x ws k'.2 g)
+    h

@@ -1,12 +1,12 @@
 -- The desk's places: how a list of records lies in them.
 -- Assumes nothing.
-use mathlib.Core.Path.{◌≡◌, refl, ap}
-use Prim.Native.Nat.{ℕ, zero, suc, ◌<◌, ◌≤◌, min}
+use mathlib.Core.Path.{◌≡◌, refl, sym, ap}
+use Prim.Native.Nat.{ℕ, zero, suc, ◌≤◌}
 use native.Mathlib.Omega.{arith}
-use native.Mathlib.Nat.{not-suc-le-zero, le_of_suc-le-suc, suc-min-suc, zero-min}
+use native.Mathlib.Nat.{not-suc-le-zero, le_of_suc-le-suc}
 use mathlib.Core.Bool.{true}
-use mathlib.Core.List.{List, [], ◌∷◌}
-use lib.ListN.{length, get_or, set, take, drop, replicate}
+use mathlib.Core.List.{List, [], ◌∷◌, ◌++◌}
+use lib.ListN.{length, take, drop, replicate}
 use Rattle.desk.specs.Watch.{empty, places, unused}
 use Rattle.desk.specs.declared.watch.Watch.{Watch}
 
@@ -16,20 +16,12 @@ unfolding places
 places_none zero = refl
 places_none (suc n) = ap (λ (l : List Watch). empty ∷ l) (places_none n)
 
--- the first i records stored, record i goes to place i
-pub places_set : (n i : ℕ) (l : List Watch) → i < n → i < length l → set (places n (take i l)) i (get_or l i empty) ≡ places n (take (suc i) l)
+-- the records, and what is left of as many empty places
+pub places_after : (n : ℕ) (ws : List Watch) → length ws ≤ n → ws ++ drop (length ws) (replicate n empty) ≡ places n ws
 unfolding places
-places_set zero i l h g = absurd (not-suc-le-zero h)
-places_set (suc n) i [] h g = absurd (not-suc-le-zero g)
-places_set (suc n) zero (w ∷ l) h g = refl
-places_set (suc n) (suc i) (w ∷ l) h g = ap (λ (k : List Watch). w ∷ k) (places_set n i l (le_of_suc-le-suc h) (le_of_suc-le-suc g))
-
--- no more records than places count
-pub places_min : (n : ℕ) (l : List Watch) → places n (take (min (length l) n) l) ≡ places n l
-unfolding places
-places_min zero l = refl
-places_min (suc n) [] = rw zero-min
-places_min (suc n) (w ∷ l) = rw suc-min-suc (ap (λ (k : List Watch). w ∷ k) (places_min n l))
+places_after n [] h = sym (places_none n)
+places_after zero (w ∷ ws) h = absurd (not-suc-le-zero h)
+places_after (suc n) (w ∷ ws) h = ap (λ (k : List Watch). w ∷ k) (places_after n ws (le_of_suc-le-suc h))
 
 -- the records are read back from the places
 pub take_places : (n : ℕ) (ws : List Watch) → length ws ≤ n → take (length ws) (places n ws) ≡ ws

@@ -1,78 +1,79 @@
--- Loops over the first n places, one record at a time: one law for each way that a turn goes.
+-- What the library's searches of the watch list tell, and a loop over its records, one at a time.
 -- Assumes nothing.
-use mathlib.Core.Path.{◌≡◌}
-use Prim.Native.Nat.{ℕ, ◌+◌, ◌<◌, ◌≤◌}
-use native.Mathlib.Nat.{add-zero}
+use mathlib.Core.Path.{◌≡◌, refl, ap}
+use Prim.Native.Nat.{ℕ, ◌+◌, ◌<◌, ◌≤◌, suc}
 use native.Mathlib.Numerals.{add-one}
 use native.Mathlib.Omega.{arith}
-use mathlib.Core.Bool.{true, false, cond}
+use mathlib.Core.Bool.{true, false, cond, not, ◌&&◌, ◌||◌}
 use mathlib.Core.List.{List, [], ◌∷◌}
-use borrow.Author.Tests.{eq-eqb, ne_eqb}
-use lib.ListN.{length, get_or, take, drop, length-take, drop_of_length-le}
-use lib.Seq.{drop-cons, take-suc, get_or-take, length-take-le}
+use borrow.Author.Tests.{ltb-false}
+use lib.Dec.{eqb, ltb}
+use lib.ListN.{length, get_or, take, drop, drop_of_length-le}
+use lib.Seq.{drop-cons, take-suc}
+use Rattle.std.specs.Prelude.{unwrap_or, Some, None}
+use Rattle.std.specs.List.{list_any, list_all, position_or_len}
+use Rattle.std.proofs.lemmas.List.Recursion.{same_from_clauses, is_position_or_len}
 use Rattle.desk.specs.Watch.{empty, is_id, has, place, list_fault, unused}
 use Rattle.desk.specs.declared.watch.Watch.{Watch}
+use Rattle.desk.proofs.general.Cases.{by_cases}
 
--- past the first n records there is none
-pub record_none : (l : List Watch) (n i : ℕ) → n ≤ i → drop i (take n l) ≡ []
-record_none l n i h = drop_of_length-le (take n l) {i = i} (omega (arith, length-take n l))
+-- ---- searches
+pub any_has : (x : ℕ) (ws : List Watch) → list_any (λ w. eqb w.id x) ws ≡ has x ws
+unfolding has
+any_has x ws = same_from_clauses (list_any (λ w. eqb w.id x)) (has x) (λ w h. eqb w.id x || h) refl (λ _ _. refl) (λ _ _. refl) ws
 
-module _ (l : List Watch) (n i : ℕ) (h : n ≤ i) where
-  pub place_none : (id : ℕ) → i + place id (drop i (take n l)) ≡ i
-  unfolding place
-  place_none id = rw (record_none l n i h) (add-zero i)
+pub all_unused : (ws : List Watch) → list_all (λ w. eqb w.id 0 && not w.running) ws ≡ unused ws
+unfolding unused
+all_unused ws = same_from_clauses (list_all (λ w. eqb w.id 0 && not w.running)) unused (λ w h. (eqb w.id 0 && not w.running) && h) refl (λ _ _. refl) (λ _ _. refl) ws
 
-  pub fault_none : list_fault (take i l) (drop i (take n l)) ≡ 0
-  unfolding list_fault
-  fault_none = rw (record_none l n i h)
+place_within : (x : ℕ) (ws : List Watch) → place x ws ≤ length ws
+unfolding place
+place_within x [] = omega arith
+place_within x (w ∷ ws) =
+    by_cases (λ b. cond b 0 (suc (place x ws)) ≤ suc (length ws)) (eqb w.id x)
+    (λ _. omega arith)
+    (λ _. omega (arith, place_within x ws))
 
-module _ (l : List Watch) (n i : ℕ) (h : i < n) (g : n ≤ length l) where
-  -- what is left of the first n records begins with record i
-  pub record_next : drop i (take n l) ≡ get_or l i empty ∷ drop (i + 1) (take n l)
-  record_next = rw (add-one, ← get_or-take n l i empty h) (drop-cons (take n l) i empty (rw (length-take-le n l g) h))
+place_step : (x : ℕ) (w : Watch) (ws : List Watch) → place x (w ∷ ws) ≡ cond (eqb w.id x) 0 (1 + place x ws)
+unfolding place
+place_step x w ws = let next : suc (place x ws) ≡ 1 + place x ws = omega arith in ap (λ (n : ℕ). cond (eqb w.id x) 0 n) next
 
-  -- the ID's place is i, or it is among the records after it
-  pub place_here : (id : ℕ) → (get_or l i empty).id ≡ id → i + place id (drop i (take n l)) ≡ i
-  unfolding place
-  place_here id e = rw (record_next, eq-eqb _ _ e) (add-zero i)
+-- a number below n, or n
+or_end : (p n : ℕ) → p ≤ n → unwrap_or (cond (ltb p n) (Some p) None) n ≡ p
+or_end p n h =
+    by_cases (λ b. ltb p n ≡ b → unwrap_or (cond b (Some p) None) n ≡ p) (ltb p n)
+    (λ _ _. refl)
+    (λ _ e. omega (arith, ltb-false p n e))
+    refl
 
-  pub place_past : (id : ℕ) → ((get_or l i empty).id ≡ id → ⊥) → i + place id (drop i (take n l)) ≡ (i + 1) + place id (drop (i + 1) (take n l))
-  unfolding place
-  place_past id e = rw (record_next, ne_eqb _ _ e) (omega arith)
+-- the place of the first record that has an ID, or how many records there are
+pub first_place : (x : ℕ) (ws : List Watch)
+    → unwrap_or (cond (ltb (position_or_len (λ w. eqb w.id x) ws) (length ws)) (Some (position_or_len (λ w. eqb w.id x) ws)) None) (length ws) ≡ place x ws
+unfolding place
+first_place x ws = rw (← is_position_or_len (place x) (λ w. eqb w.id x) refl (place_step x) ws) (or_end (place x ws) (length ws) (place_within x ws))
+
+-- ---- a loop
+-- past the last record there is none
+pub fault_none : (l : List Watch) (i : ℕ) → length l ≤ i → list_fault (take i l) (drop i l) ≡ 0
+unfolding list_fault
+fault_none l i h = rw (drop_of_length-le l {i = i} h)
+
+module _ (l : List Watch) (i : ℕ) (h : i < length l) where
+  -- what is left of the records begins with record i
+  pub record_next : drop i l ≡ get_or l i empty ∷ drop (i + 1) l
+  record_next = rw add-one (drop-cons l i empty h)
 
   -- record i has an ID out of its range, or one again, or neither and the records after it decide
-  fault_next : list_fault (take i l) (drop i (take n l)) ≡ cond (is_id (get_or l i empty).id) (cond (has (get_or l i empty).id (take i l)) 37 (list_fault (take (i + 1) l) (drop (i + 1) (take n l)))) 36
+  fault_next : list_fault (take i l) (drop i l) ≡ cond (is_id (get_or l i empty).id) (cond (has (get_or l i empty).id (take i l)) 37 (list_fault (take (i + 1) l) (drop (i + 1) l))) 36
   unfolding list_fault
-  fault_next = rw (record_next, add-one, take-suc l i empty (omega (arith, h, g)))
+  fault_next = rw (record_next, add-one, take-suc l i empty h)
 
-  pub fault_range : is_id (get_or l i empty).id ≡ false → list_fault (take i l) (drop i (take n l)) ≡ 36
+  pub fault_range : is_id (get_or l i empty).id ≡ false → list_fault (take i l) (drop i l) ≡ 36
   fault_range v = rw (fault_next, v)
 
-  pub fault_again : is_id (get_or l i empty).id ≡ true → has (get_or l i empty).id (take i l) ≡ true → list_fault (take i l) (drop i (take n l)) ≡ 37
+  pub fault_again : is_id (get_or l i empty).id ≡ true → has (get_or l i empty).id (take i l) ≡ true → list_fault (take i l) (drop i l) ≡ 37
   fault_again v w = rw (fault_next, v, w)
 
   pub fault_past : is_id (get_or l i empty).id ≡ true → has (get_or l i empty).id (take i l) ≡ false
-      → list_fault (take i l) (drop i (take n l)) ≡ list_fault (take (i + 1) l) (drop (i + 1) (take n l))
+      → list_fault (take i l) (drop i l) ≡ list_fault (take (i + 1) l) (drop (i + 1) l)
   fault_past v w = rw (fault_next, v, w)
-
--- past the last place there is none
-pub unused_none : (l : List Watch) (i : ℕ) → length l ≤ i → unused (drop i l) ≡ true
-unfolding unused
-unused_none l i h = rw (drop_of_length-le l {i = i} h)
-
-module _ (l : List Watch) (i : ℕ) (h : i < length l) where
-  place_next : drop i l ≡ get_or l i empty ∷ drop (i + 1) l
-  place_next = rw add-one (drop-cons l i empty h)
-
-  -- place i has an ID, or a running mark, or neither and the places after it decide
-  pub unused_id : ((get_or l i empty).id ≡ 0 → ⊥) → unused (drop i l) ≡ false
-  unfolding unused
-  unused_id e = rw (place_next, ne_eqb _ _ e)
-
-  pub unused_mark : (get_or l i empty).id ≡ 0 → (get_or l i empty).running ≡ true → unused (drop i l) ≡ false
-  unfolding unused
-  unused_mark e m = rw (place_next, eq-eqb _ _ e, m)
-
-  pub unused_past : (get_or l i empty).id ≡ 0 → (get_or l i empty).running ≡ false → unused (drop i l) ≡ unused (drop (i + 1) l)
-  unfolding unused
-  unused_past e m = rw (place_next, eq-eqb _ _ e, m)

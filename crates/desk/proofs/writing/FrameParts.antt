@@ -16,10 +16,10 @@ use Rattle.desk.specs.declared.watch.Watch.{Watch}
 use Rattle.desk.specs.Limit.{unlimited}
 use Rattle.desk.specs.Watch.{has, picked, filtered, pick_ids, all_ids}
 use Rattle.desk.specs.Record.{watched, sound}
-use Rattle.desk.specs.Command.{Command, no_tag, downlimit_key, start_key, stop_key, uplimit_key, values, id_list, limit_frame, ids_frame, command_frame, frames_of, listing, listed_frame, longest_frames}
+use Rattle.desk.specs.Command.{Command, no_tag, downlimit_key, start_key, stop_key, uplimit_key, values, id_list, limit_frame, ids_frame, command_frame, frames_of, listing, four_commands, listed_frame, longest_frames}
 use Rattle.desk.specs.Plan.{raise_commands, clear_commands}
 use Rattle.desk.proofs.general.Cases.{by_cases}
-use Rattle.desk.proofs.machines.CommandLaws.{FewIds, four_commands, one_id}
+use Rattle.desk.proofs.machines.CommandLaws.{FewIds, one_id}
 use Rattle.desk.proofs.writing.FrameLengths.{no_tag_lem, limit_small, list_length, items_small, items_some, down_length, up_length, start_length, stop_length}
 use Rattle.desk.proofs.records.SoundLaws.{sound_parts, watched_length, pick_ids_lem, pick_length, pick_both}
 use Rattle.desk.proofs.watching.WatchLists.{has_id_lem}

@@ -1,9 +1,9 @@
 -- A list of torrent IDs, in the parts that it is put in.
 -- Assumes nothing.
 use Prim.Native.Nat.{ℕ, ◌+◌}
-use mathlib.Core.Path.{◌≡◌, refl, sym, ap}
+use mathlib.Core.Path.{◌≡◌, refl, ap}
 use mathlib.Core.Bool.{true, false}
-use mathlib.Core.List.{List, [], ◌∷◌, ◌++◌, flatten, append-nil}
+use mathlib.Core.List.{List, [], ◌∷◌, ◌++◌, flatten}
 use lib.ListN.{drop}
 use Rattle.octets.specs.Put.{Put}
 use Rattle.bencode.specs.Value.{integer, encode, encode_all}
@@ -21,11 +21,6 @@ list_parts ids = (108 ∷ []) ∷ encode_all (values ids) ∷ (101 ∷ []) ∷ [
 pub list_parts_lem : (ids : List ℕ) → flatten (list_parts ids) ≡ id_list ids
 unfolding flatten id_list encode
 list_parts_lem ids = refl
-
--- the item of a list with one
-pub one_item : (x : ℕ) → encode (integer (pos x)) ≡ encode_all (values (x ∷ []))
-unfolding values encode_all
-one_item x = sym (append-nil (encode (integer (pos x))))
 
 -- items one by one
 unfoldable pub item_parts : List ℕ → List (List ℕ)

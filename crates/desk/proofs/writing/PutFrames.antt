@@ -16,10 +16,11 @@ use Rattle.octets.specs.Put.{Wrote, Put}
 use Rattle.octets.proofs.digits.DigitLaws.{lt_or_le}
 use Rattle.octets.proofs.writing.PutLaws.{wrote_front}
 use Rattle.ipc.specs.declared.writer.Given.{Given}
-use Rattle.ipc.specs.declared.writer.Written.{Written}
 use Rattle.ipc.specs.Writer.{payload_of, frame_of, write_answer, buffer_after, Leaves}
 use Rattle.desk.specs.Command.{message_frame, Writable}
 use Rattle.desk.proofs.writing.Writes.{writable_answer, writable_short}
+use Rattle.ipc.specs.declared.writer.WriteRefusal.{WriteRefusal}
+use Rattle.std.specs.Prelude.{Result, Ok, Err}
 
 -- ---- the front of a buffer
 -- a buffer that begins with some bytes, as many as a count
@@ -60,22 +61,22 @@ module _ (before : List ℕ) (at : ℕ) (inside : at ≤ length before) where
       ap (λ (l : List ℕ). take at before ++ (part ++ l)) (drop_of_length-le (drop at before) {i = rest} (omega (arith, length-drop at before)))
       ∙ ap (λ (l : List ℕ). take at before ++ l) (append-nil part)
 
-  module _ (tag key : ℕ) (given : Given) (s : List ℕ) (w : Writable tag key given s) {r : Written} {part : List ℕ}
+  module _ (tag key : ℕ) (given : Given) (s : List ℕ) (w : Writable tag key given s) {r : Result ℕ WriteRefusal} {part : List ℕ}
       (o : Leaves (write_answer key given s tag (length (mid_of at rest before))) (payload_of key given s tag) (mid_of at rest before) r part) where
     abbrev frame : List ℕ
     frame = message_frame tag key given s
 
     -- an answer with a count: the frame has room, and it is the count
-    module _ (n : ℕ) (e : r ≡ Written.Count n) where
+    module _ (n : ℕ) (e : r ≡ Ok n) where
       counts : (n ≡ length frame) × (at + length frame ≤ length before)
       counts =
           ⊎_elim
           (λ (short : rest < length frame).
-          let q : Written.Count n ≡ Written.Refused 44 = sym e ∙ o.answered ∙ writable_short tag key given s (length (mid_of at rest before)) w (omega (arith, room_is, short)) in
+          let q : ◌≡◌ {A = Result ℕ WriteRefusal} (Ok n) (Err WriteRefusal.Room) = sym e ∙ o.answered ∙ writable_short tag key given s (length (mid_of at rest before)) w (omega (arith, room_is, short)) in
           let z : ◌≡◌ {A = ℕ} 0 1 = cc in
           absurd (omega arith))
           (λ (fits : length frame ≤ rest).
-          let q : Written.Count n ≡ Written.Count (length frame) = sym e ∙ o.answered ∙ writable_answer tag key given s (length (mid_of at rest before)) w (omega (arith, room_is, fits)) in
+          let q : ◌≡◌ {A = Result ℕ WriteRefusal} (Ok n) (Ok (length frame)) = sym e ∙ o.answered ∙ writable_answer tag key given s (length (mid_of at rest before)) w (omega (arith, room_is, fits)) in
           let same : n ≡ length frame = cc in
           (same, omega (arith, fits, inside)))
           (lt_or_le rest (length frame))
@@ -84,7 +85,7 @@ module _ (before : List ℕ) (at : ℕ) (inside : at ≤ length before) where
       unfolding message_frame
       part_is =
           o.buffer
-          ∙ ap (λ (x : Written). buffer_after x (frame_of (payload_of key given s tag)) (mid_of at rest before)) e
+          ∙ ap (λ (x : Result ℕ WriteRefusal). buffer_after x (frame_of (payload_of key given s tag)) (mid_of at rest before)) e
           ∙ ap (λ (l : List ℕ). frame ++ l) (ap (drop (length frame)) mid_is ∙ drop-drop (length frame) at before)
 
       pub part_counted : at + n ≤ length before
@@ -99,18 +100,18 @@ module _ (before : List ℕ) (at : ℕ) (inside : at ≤ length before) where
           }
 
     -- a refusal: the frame has no room
-    pub part_kept : (code : ℕ) → r ≡ Written.Refused code → Put before at frame (put_mid at rest before part) at
-    part_kept code e =
+    pub part_kept : (refusal : WriteRefusal) → r ≡ Err refusal → Put before at frame (put_mid at rest before part) at
+    part_kept refusal e =
         ⊎_elim
         (λ (short : rest < length frame).
         let tight : leb (at + length frame) (length before) ≡ false = lt-leb (at + length frame) (length before) (omega (arith, short, inside)) in
-        let kept : part ≡ mid_of at rest before = o.buffer ∙ ap (λ (x : Written). buffer_after x (frame_of (payload_of key given s tag)) (mid_of at rest before)) e in
+        let kept : part ≡ mid_of at rest before = o.buffer ∙ ap (λ (x : Result ℕ WriteRefusal). buffer_after x (frame_of (payload_of key given s tag)) (mid_of at rest before)) e in
         record {
           stored = ap (put_mid at rest before) kept ∙ put_same at rest before ∙ ap (λ b. cond b (sets before at frame) before) (sym tight);
           ended = ap (λ b. cond b (at + length frame) at) (sym tight);
         })
         (λ (fits : length frame ≤ rest).
-        let q : Written.Refused code ≡ Written.Count (length frame) = sym e ∙ o.answered ∙ writable_answer tag key given s (length (mid_of at rest before)) w (omega (arith, room_is, fits)) in
+        let q : ◌≡◌ {A = Result ℕ WriteRefusal} (Err refusal) (Ok (length frame)) = sym e ∙ o.answered ∙ writable_answer tag key given s (length (mid_of at rest before)) w (omega (arith, room_is, fits)) in
         let z : ◌≡◌ {A = ℕ} 0 1 = cc in
         absurd (omega arith))
         (lt_or_le rest (length frame))

@@ -11,7 +11,6 @@ use lib.IntN.{ℤ}
 use lib.ListN.{length}
 use Rattle.bencode.specs.Value.{list, encode}
 use Rattle.ipc.specs.declared.writer.Given.{Given}
-use Rattle.ipc.specs.declared.writer.Written.{Written}
 use Rattle.ipc.specs.Ids.{largest_tag}
 use Rattle.ipc.specs.Keys.{class_of, is_written, listed}
 use Rattle.ipc.specs.Meaning.{is_id_value, every}
@@ -24,23 +23,28 @@ use Rattle.desk.specs.Limit.{is_limit}
 use Rattle.desk.specs.Watch.{is_id, all_ids}
 use Rattle.desk.specs.Command.{downlimit_key, start_key, stop_key, uplimit_key, values, id_list, message_frame, longest_frames, Writable, LimitKey, ListKey}
 use Rattle.desk.proofs.writing.FrameLengths.{limit_room, ids_room}
+use Rattle.ipc.specs.declared.writer.WriteRefusal.{WriteRefusal}
+use Rattle.std.specs.Prelude.{Result, Ok, Err}
 
 -- a message that is in order and no longer than the longest call
-writable : (tag key : ℕ) (given : Given) (s : List ℕ) → message_fault key given s tag ≡ 0 → length (message_frame tag key given s) ≤ longest_frames → Writable tag key given s
+writable : (tag key : ℕ) (given : Given) (s : List ℕ) → message_fault key given s tag ≡ Ok tt → length (message_frame tag key given s) ≤ longest_frames → Writable tag key given s
 unfolding message_frame
 writable tag key given s e h = (e, omega (arith, frame_length (payload_of key given s tag)))
 
+abbrev counted : ℕ → Result ℕ WriteRefusal
+counted n = Ok n
+
 -- it is written into any room that its frame has
 pub writable_answer : (tag key : ℕ) (given : Given) (s : List ℕ) (room : ℕ) → Writable tag key given s → length (message_frame tag key given s) ≤ room
-    → write_answer key given s tag room ≡ Written.Count (length (message_frame tag key given s))
+    → write_answer key given s tag room ≡ Ok (length (message_frame tag key given s))
 unfolding write_answer message_frame
 writable_answer tag key given s room w h =
     let size = frame_length (payload_of key given s tag) in
-    rw w.0 (fitted_count (payload_of key given s tag) room w.1 (omega (arith, size)) ∙ ap Written.Count (sym size))
+    rw w.0 (fitted_count (payload_of key given s tag) room w.1 (omega (arith, size)) ∙ ap counted (sym size))
 
 -- and refused with 44 in any other
 pub writable_short : (tag key : ℕ) (given : Given) (s : List ℕ) (room : ℕ) → Writable tag key given s → room < length (message_frame tag key given s)
-    → write_answer key given s tag room ≡ Written.Refused 44
+    → write_answer key given s tag room ≡ Err WriteRefusal.Room
 unfolding write_answer message_frame fitted
 writable_short tag key given s room w h = rw (w.0, le-leb (length (payload_of key given s tag)) largest_payload w.1, lt-leb (length (frame_of (payload_of key given s tag))) room h) refl
 

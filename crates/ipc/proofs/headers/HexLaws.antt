@@ -10,7 +10,10 @@ use native.Mathlib.Decide.{dec_lt}
 use borrow.Author.Tests.{lt-ltb, le-ltb}
 use lib.Arith.{mod-mul}
 use lib.Dec.{eqb, eqb→eq}
-use lib.ListN.{length, replicate}
+use lib.ListN.{length, get_or, set, replicate}
+use Rattle.std.specs.Prelude.{bit_and}
+use Rattle.std.proofs.lemmas.List.{get_or-set_same, get_or-set_other, length-set}
+use Rattle.std.proofs.lemmas.Nat.{and_mask}
 use Rattle.octets.proofs.general.Table.{at}
 use Rattle.ipc.specs.Header.{header_length, hex_value}
 use Rattle.ipc.specs.Hex.{hex_digit, hex_in, hex_header, upper}
@@ -139,3 +142,37 @@ digits_in (suc k) n =
 pub header_digits : (n : ℕ) → HexDigits (hex_header n)
 unfolding hex_header
 header_digits n = digits_in header_length n
+
+-- ---- the digits of a header, one after the other
+in_digit : (k n j : ℕ) → j < k → get_or (hex_in k n) j 0 ≡ hex_digit (n / 16 ^ (k - (j + 1)) % 16)
+unfolding hex_in
+in_digit zero n j h = absurd (omega (arith, h))
+in_digit (suc k) n zero h = let e : k ≡ suc k - 1 = omega arith in ap (λ (i : ℕ). hex_digit (n / 16 ^ i % 16)) e
+in_digit (suc k) n (suc j) h = let e : k - (j + 1) ≡ suc k - (suc j + 1) = omega arith in in_digit k n j (omega (arith, h)) ∙ ap (λ (i : ℕ). hex_digit (n / 16 ^ i % 16)) e
+
+pub header_digit : (n j : ℕ) → j < 8 → get_or (hex_header n) j 0 ≡ hex_digit (n / 16 ^ (7 - j) % 16)
+unfolding hex_header
+header_digit n j h = let e : 8 - (j + 1) ≡ 7 - j = omega arith in in_digit 8 n j h ∙ ap (λ (i : ℕ). hex_digit (n / 16 ^ i % 16)) e
+
+-- the shift to a digit, as a power of 16: a computed test
+shift_right : ℕ → ℕ → Bool
+shift_right k x = eqb (2 ^ (28 - 4 * k)) (16 ^ (7 - k))
+
+shifted : (k : ℕ) → k < 8 → 2 ^ (28 - 4 * k) ≡ 16 ^ (7 - k)
+unfolding shift_right
+shifted k h = eqb→eq _ _ (at shift_right (replicate 8 0) tt k h)
+
+digit_is : (n k : ℕ) → k < 8 → bit_and (n / 2 ^ (28 - 4 * k)) 15 ≡ n / 16 ^ (7 - k) % 16
+digit_is n k h = and_mask (n / 2 ^ (28 - 4 * k)) 4 ∙ ap (λ (i : ℕ). n / i % 16) (shifted k h)
+
+-- one digit more
+pub digits_more : (n k : ℕ) (digits : List ℕ) (d : ℕ) → k < 8 → d ≡ hex_digit (bit_and (n / 2 ^ (28 - 4 * k)) 15)
+    → (length digits ≡ 8) × ((j : ℕ) → j < k → get_or digits j 0 ≡ hex_digit (n / 16 ^ (7 - j) % 16))
+    → (length (set digits k d) ≡ 8) × ((j : ℕ) → j < k + 1 → get_or (set digits k d) j 0 ≡ hex_digit (n / 16 ^ (7 - j) % 16))
+digits_more n k digits d h e i = (length-set digits k d ∙ i.0, λ j l. go j l (dec_lt j k))
+  where
+    go : (j : ℕ) → j < k + 1 → Dec (j < k) → get_or (set digits k d) j 0 ≡ hex_digit (n / 16 ^ (7 - j) % 16)
+    go j l (yes below) = get_or-set_other digits k j d 0 (λ q. omega (arith, below, q)) ∙ i.1 j below
+    go j l (no other) =
+        let here : j ≡ k = omega (arith, l, other) in
+        rw here (get_or-set_same digits k d 0 (omega (arith, h, i.0)) ∙ e ∙ ap hex_digit (digit_is n k h))

@@ -6,7 +6,7 @@ use mathlib.Core.Bool.{Bool, true, false, cond}
 use mathlib.Core.List.{List, [], ◌∷◌, map}
 use native.Mathlib.Nat.{le_of_suc-le-suc, not-suc-le-zero}
 use native.Mathlib.Omega.{arith}
-use lib.ListN.{length, get_or, drop, take, replicate, get_or-map, get_or-eq_default, length-append, length-take, drop_of_length-le}
+use lib.ListN.{length, get_or, drop, take, replicate, get_or-map, get_or-eq_default, length-append, drop_of_length-le}
 use lib.Seq.{drop-cons, take_at}
 use Rattle.octets.specs.Bytes.{same}
 use Rattle.octets.specs.Put.{Put}
@@ -15,7 +15,7 @@ use Rattle.octets.specs.Ascii.{ascii}
 use Rattle.octets.proofs.sequences.Equality.{same_lengths}
 use Rattle.ipc.specs.declared.keys.Class.{Class}
 use Rattle.ipc.specs.declared.keys.KeyRow.{KeyRow}
-use Rattle.ipc.specs.Keys.{Listed, listed, unlisted, row_of, row_at, name_at, number_from, key_number, listed_at, class_of, is_written, key_text}
+use Rattle.ipc.specs.Keys.{Listed, listed, unlisted, row_of, row_at, name_at, number_from, key_number, listed_at, class_of, key_text}
 
 -- what stands past the end does not matter inside
 inside_any : {A : Type 0} (l : List A) (k : ℕ) (d e : A) → k < length l → get_or l k d ≡ get_or l k e
@@ -41,13 +41,6 @@ module _ (k : ℕ) (row : KeyRow) (e : row ≡ row_at k) where
   table_name : take row.length row.text ≡ name_at k
   unfolding row_at name_at
   table_name = row_text (get_or listed k unlisted) row e
-
-  pub table_fits : row.length ≤ length row.text
-  unfolding row_at
-  table_fits = row_fits (get_or listed k unlisted) row e
-
-  pub table_count : row.length ≡ length (take row.length row.text)
-  table_count = omega (arith, length-take row.length row.text, table_fits)
 
   pub table_same : (text : List ℕ) (t : Bool) → same (take row.length row.text) text ≡ t → same (name_at k) text ≡ t
   table_same text t h = ap (λ (x : List ℕ). same x text) (sym table_name) ∙ h
@@ -107,14 +100,6 @@ module _ (n : ℕ) where
     row_here = ap row_of (sym (listed_at_lem n h))
 
   module _ (row : KeyRow) (e : row ≡ row_of (listed_at n)) where
-    pub row_class : row.class ≡ class_of n
-    unfolding class_of
-    row_class = ap (λ (r : KeyRow). r.class) e
-
-    pub row_written : row.written ≡ is_written n
-    unfolding is_written
-    row_written = ap (λ (r : KeyRow). r.written) e
-
     pub row_length : row.length ≡ length (key_text n)
     unfolding key_text
     row_length = ap (λ (r : KeyRow). r.length) e

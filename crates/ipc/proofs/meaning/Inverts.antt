@@ -16,16 +16,15 @@ use Rattle.bencode.proofs.values.Encodings.{values_text}
 use Rattle.octets.proofs.sequences.Order.{clash, same_eq}
 use Rattle.octets.specs.Ascii.{ascii}
 use Rattle.bencode.specs.Integers.{within}
-use Rattle.ipc.specs.declared.ids.OptionalTag.{OptionalTag}
 use Rattle.ipc.specs.declared.ids.Tag.{Tag}
-use Rattle.ipc.specs.declared.format.Checked.{Checked}
 use Rattle.ipc.specs.declared.reading.Value.{Value as MessageValue}
-use Rattle.ipc.specs.declared.versions.OptionalVersions.{OptionalVersions}
 use Rattle.ipc.specs.Answer.{Answer, message, handshake, refused, accepted, tag_number, content_of}
 use Rattle.ipc.specs.Ids.{largest_tag, tag_of}
 use Rattle.ipc.specs.Keys.{key_text, Listed, listed, unlisted, number_from, key_number, class_of, is_written}
 use Rattle.ipc.specs.Meaning.{judged, answered, tagged_of, third_of, list_of, versions_of, versions_answer, meaning}
 use Rattle.ipc.specs.Writer.{encode_tag}
+use Rattle.ipc.specs.declared.versions.Versions.{Versions}
+use Rattle.std.specs.Prelude.{Option, Some, None}
 
 -- ---- keys
 -- a text that has a number among keys is the name of the key with that number
@@ -73,11 +72,11 @@ within_tag : (z : ℤ) → within 1 largest_tag z ≡ true → Tagged z (nat_abs
 within_tag (pos n) e = record { is = refl; low = leb-true 1 n (and_left (leb 1 n) (leb n largest_tag) e); high = leb-true n largest_tag (and_right (leb 1 n) (leb n largest_tag) e) }
 within_tag (negsuc n) e = clash false e refl
 
-tag_tells : (z : ℤ) (t : Tag) → tag_of z ≡ OptionalTag.Tag t → Tagged z t.0
+tag_tells : (z : ℤ) (t : Tag) → tag_of z ≡ Some t → Tagged z t.0
 unfolding tag_of
 tag_tells z t e = go (within 1 largest_tag z) refl e
   where
-    go : (b : Bool) → within 1 largest_tag z ≡ b → cond b (OptionalTag.Tag (record { 0 = nat_abs z })) OptionalTag.None ≡ OptionalTag.Tag t → Tagged z t.0
+    go : (b : Bool) → within 1 largest_tag z ≡ b → cond b (Some (record { 0 = nat_abs z })) None ≡ Some t → Tagged z t.0
     go true q e =
         let n : nat_abs z ≡ t.0 = ap tag_number e in
         rw n at (within_tag z q)
@@ -101,7 +100,7 @@ pub record Meant (v : Value) (used : ℕ) (a : Answer) : Type 0 where
   pub held : MessageValue
   pub spelt : encode v ≡ spelling key content tag
   pub small : tag ≤ largest_tag
-  pub fits : judged (class_of (key_number key)) (1 + length (encode_string key)) content ≡ Checked.Value held
+  pub fits : judged (class_of (key_number key)) (1 + length (encode_string key)) content ≡ Some held
   pub is : accepted used (key_number key) tag (content_of held) ≡ a
 
 -- the encoding of such a list
@@ -123,20 +122,20 @@ module _ (used : ℕ) (a : Answer) (code : a.code ≡ 0) (kind : a.kind ≡ mess
   refusal : {P : Type 0} (c at : ℕ) → (c ≡ 0 → ⊥) → refused c at ≡ a → P
   refusal c at h e = absurd (h (ap (λ (x : Answer). x.code) e ∙ code))
 
-  value_meant : (v : Value) (key : List ℕ) (x : Value) (tag : OptionalTag) → encode v ≡ spelling key x (tag_number tag) → tag_number tag ≤ largest_tag
-      → (c : Checked) → judged (class_of (key_number key)) (1 + length (encode_string key)) x ≡ c → answered used (key_number key) tag c ≡ a → Meant v used a
-  value_meant v key x tag s l (Checked.Value h) q e = record { key = key; content = x; tag = tag_number tag; held = h; spelt = s; small = l; fits = q; is = e }
-  value_meant v key x tag s l Checked.Off q e = let n : ◌≡◌ {A = ℕ} 22 0 = ap (λ (y : Answer). y.code) e ∙ code in absurd (omega arith)
+  value_meant : (v : Value) (key : List ℕ) (x : Value) (tag : Option Tag) → encode v ≡ spelling key x (tag_number tag) → tag_number tag ≤ largest_tag
+      → (c : Option MessageValue) → judged (class_of (key_number key)) (1 + length (encode_string key)) x ≡ c → answered used (key_number key) tag c ≡ a → Meant v used a
+  value_meant v key x tag s l (Some h) q e = record { key = key; content = x; tag = tag_number tag; held = h; spelt = s; small = l; fits = q; is = e }
+  value_meant v key x tag s l None q e = let n : ◌≡◌ {A = ℕ} 22 0 = ap (λ (y : Answer). y.code) e ∙ code in absurd (omega arith)
 
-  tag_meant : (key : List ℕ) (x : Value) (z : ℤ) (o : OptionalTag) → tag_of z ≡ o → tagged_of used key x o ≡ a → Meant (list (value (string key) (value x (value (integer z) no_value)))) used a
-  tag_meant key x z OptionalTag.None q e = refusal 20 0 (λ n. omega arith) e
-  tag_meant key x z (OptionalTag.Tag t) q e =
+  tag_meant : (key : List ℕ) (x : Value) (z : ℤ) (o : Option Tag) → tag_of z ≡ o → tagged_of used key x o ≡ a → Meant (list (value (string key) (value x (value (integer z) no_value)))) used a
+  tag_meant key x z None q e = refusal 20 0 (λ n. omega arith) e
+  tag_meant key x z (Some t) q e =
       let d = tag_tells z t q in
-      value_meant (list (value (string key) (value x (value (integer z) no_value)))) key x (OptionalTag.Tag t) (tagged_text key x z t.0 d) d.high (judged (class_of (key_number key)) (1 + length (encode_string key)) x) refl e
+      value_meant (list (value (string key) (value x (value (integer z) no_value)))) key x (Some t) (tagged_text key x z t.0 d) d.high (judged (class_of (key_number key)) (1 + length (encode_string key)) x) refl e
 
   third_meant : (key : List ℕ) (x : Value) (vs : Values) → third_of used key x vs ≡ a → Meant (list (value (string key) (value x vs))) used a
   third_meant key x no_value e =
-      value_meant (list (value (string key) (value x no_value))) key x OptionalTag.None (untagged_text key x) (omega arith) (judged (class_of (key_number key)) (1 + length (encode_string key)) x) refl e
+      value_meant (list (value (string key) (value x no_value))) key x None (untagged_text key x) (omega arith) (judged (class_of (key_number key)) (1 + length (encode_string key)) x) refl e
   third_meant key x (value (integer z) no_value) e = tag_meant key x z (tag_of z) refl e
   third_meant key x (value (integer z) (value y vs)) e = refusal 20 0 (λ n. omega arith) e
   third_meant key x (value (string text) vs) e = refusal 20 0 (λ n. omega arith) e
@@ -151,9 +150,9 @@ module _ (used : ℕ) (a : Answer) (code : a.code ≡ 0) (kind : a.kind ≡ mess
   list_meant (value (list us) vs) e = refusal 20 0 (λ n. omega arith) e
   list_meant (value (dictionary es) vs) e = refusal 20 0 (λ n. omega arith) e
 
-  handshake_none : {P : Type 0} (o : OptionalVersions) → versions_answer used o ≡ a → P
-  handshake_none OptionalVersions.None e = refusal 21 0 (λ n. omega arith) e
-  handshake_none (OptionalVersions.Range r) e =
+  handshake_none : {P : Type 0} (o : Option Versions) → versions_answer used o ≡ a → P
+  handshake_none None e = refusal 21 0 (λ n. omega arith) e
+  handshake_none (Some r) e =
       let k : handshake ≡ message = ap (λ (y : Answer). y.kind) e ∙ kind in
       let n : ◌≡◌ {A = ℕ} 0 1 = cc in
       absurd (omega arith)

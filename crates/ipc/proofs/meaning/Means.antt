@@ -19,16 +19,15 @@ use Rattle.bencode.proofs.values.Encodings.{values_text}
 use Rattle.bencode.proofs.Fields.{finds_integer}
 use Rattle.bencode.proofs.Lookups.{starts, value_first, entries_begin, reads_integer, reads_string}
 use Rattle.ipc.specs.declared.format.Items.{Items}
-use Rattle.ipc.specs.declared.format.OptionalEnd.{OptionalEnd}
-use Rattle.ipc.specs.declared.ids.OptionalId.{OptionalId}
 use Rattle.ipc.specs.Format.{end_of_text, end_by_id, id_end, torrent_end, item_end, items_end}
 use Rattle.ipc.specs.Ids.{largest_id, torrent_id_of}
 use Rattle.ipc.specs.Meaning.{is_id_value, is_text, is_torrent, every}
 use Rattle.ipc.proofs.formats.FormatLaws.{torrent_other, torrent_field, items_last, items_off, items_more}
+use Rattle.std.specs.Prelude.{Some, None, Option}
 
 -- the end of what passes a test, and none where it does not
-abbrev pub end_if : Bool → ℕ → OptionalEnd
-end_if t e = cond t (OptionalEnd.End e) OptionalEnd.None
+abbrev pub end_if : Bool → ℕ → Option ℕ
+end_if t e = cond t (Some e) None
 
 -- which values are items of a list
 abbrev pub ok_item : Items → Value → Bool
@@ -41,11 +40,11 @@ id_meant : (z : ℤ) (e : ℕ) → end_by_id e (torrent_id_of z) ≡ end_if (wit
 unfolding torrent_id_of
 id_meant z e = go (within 1 largest_id z)
   where
-    go : (t : Bool) → end_by_id e (cond t (OptionalId.Id (record { 0 = nat_abs z })) OptionalId.None) ≡ end_if t e
+    go : (t : Bool) → end_by_id e (cond t (Some (record { 0 = nat_abs z })) None) ≡ end_if t e
     go true = refl
     go false = refl
 
-found_meant : (e : ℕ) (x : Found) → found_integer OptionalEnd.None (λ z. end_if (within 1 largest_id z) e) x ≡ end_if (found_integer false (within 1 largest_id) x) e
+found_meant : (e : ℕ) (x : Found) → found_integer None (λ z. end_if (within 1 largest_id z) e) x ≡ end_if (found_integer false (within 1 largest_id) x) e
 found_meant e (found (integer z)) = refl
 found_meant e (found (string text)) = refl
 found_meant e (found (list vs)) = refl
@@ -75,7 +74,7 @@ module _ (profile : Profile) (p : List ℕ) where
   torrent_means zero at e (dictionary es) h b = absurd h
   torrent_means (suc levels) at e (dictionary es) h b =
       sym (torrent_field p at (starts (dictionary es) p at e b))
-      ∙ finds_integer OptionalEnd.None (λ z end. end_by_id (skip_rest p end) (torrent_id_of z)) (λ z. end_if (within 1 largest_id z) e) p e (λ z to q. rw q (id_meant z e)) profile levels es (at + 1) (ascii "id") h (entries_begin p at e es b)
+      ∙ finds_integer None (λ z end. end_by_id (skip_rest p end) (torrent_id_of z)) (λ z. end_if (within 1 largest_id z) e) p e (λ z to q. rw q (id_meant z e)) profile levels es (at + 1) (ascii "id") h (entries_begin p at e es b)
       ∙ found_meant e (lookup (ascii "id") es)
 
   item_means : (levels at e : ℕ) (items : Items) (v : Value) → WellFormed profile levels v → Begins p at (encode v) e → item_end items p at ≡ end_if (ok_item items v) e
@@ -89,7 +88,7 @@ module _ (profile : Profile) (p : List ℕ) where
   unfolding encode
   items_mean levels items no_value at e h b =
       let last : at + 1 ≡ e = omega (arith, b.ends) in
-      sym (items_last items p at (begins_head p at 101 e [] b)) ∙ ap (λ (k : ℕ). OptionalEnd.End k) last
+      sym (items_last items p at (begins_head p at 101 e [] b)) ∙ ap (λ (k : ℕ). Some k) last
   items_mean levels items (value v vs) at e h b =
       let c = subst (λ (l : List ℕ). Begins p at l e) (values_text v vs) b in
       let x = begins_left p at e (encode v) (encode_all vs ++ (101 ∷ [])) c in

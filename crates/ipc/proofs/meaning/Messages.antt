@@ -9,12 +9,10 @@ use borrow.Author.Tests.{eq-eqb, ne_eqb}
 use lib.IntN.{ℤ}
 use lib.ListN.{length, length-append}
 use Rattle.bencode.specs.declared.fault.Fault.{Fault}
-use Rattle.bencode.specs.declared.strings.Text.{Text}
-use Rattle.bencode.specs.declared.integers.Number.{Number}
 use Rattle.bencode.specs.declared.profile.Profile.{Profile}
 use Rattle.octets.specs.Bytes.{byte_at, slice, Begins}
-use Rattle.bencode.specs.Strings.{string_at}
-use Rattle.bencode.specs.Integers.{integer_at, within}
+use Rattle.bencode.specs.Strings.{string_at, text_of}
+use Rattle.bencode.specs.Integers.{integer_at, within, number_of}
 use Rattle.bencode.specs.Value.{Value, integer, string, list, dictionary, Values, no_value, value, encode_string, encode, encode_all, All, WellFormed}
 use Rattle.bencode.proofs.values.Encodings.{values_text}
 use Rattle.bencode.proofs.values.FirstBytes.{no_string}
@@ -23,10 +21,7 @@ use Rattle.octets.specs.Numerals.{decimal}
 use Rattle.octets.proofs.sequences.BeginsLaws.{begins_left, begins_right, begins_head}
 use Rattle.bencode.proofs.values.ScalarReads.{string_reads}
 use Rattle.ipc.specs.declared.keys.Class.{Class}
-use Rattle.ipc.specs.declared.ids.OptionalTag.{OptionalTag}
-use Rattle.ipc.specs.declared.message.Tail.{Tail}
-use Rattle.ipc.specs.declared.reading.Reading.{Reading}
-use Rattle.ipc.specs.declared.format.Checked.{Checked}
+use Rattle.ipc.specs.declared.reading.Refusal.{Refusal}
 use Rattle.ipc.specs.declared.format.Items.{Items}
 use Rattle.ipc.specs.declared.reading.Value.{Value as MessageValue}
 use Rattle.ipc.specs.Answer.{refused, answer_of}
@@ -39,6 +34,8 @@ use Rattle.ipc.specs.Meaning.{every, whole_at, as_integer, as_text, as_list, jud
 use Rattle.ipc.proofs.formats.FormatLaws.{list_other, list_good, list_off}
 use Rattle.ipc.proofs.frames.MessageLaws.{third_end, message_no_key, message_no_value, message_keyed}
 use Rattle.ipc.proofs.meaning.Means.{end_if, ok_item, items_mean}
+use Rattle.ipc.specs.declared.ids.Tag.{Tag}
+use Rattle.std.specs.Prelude.{Option, Some, None, Result, Err, Ok}
 
 -- the values of a list are well formed with one level fewer
 list_formed : (profile : Profile) (levels : ℕ) (vs : Values) → WellFormed profile levels (list vs) → (inner : ℕ) × All (WellFormed profile inner) vs
@@ -72,11 +69,11 @@ module _ (profile : Profile) (levels : ℕ) (p : List ℕ) where
     text_means (list vs) b = rw (reads_string (list vs) p at e b).1 refl
     text_means (dictionary es) b = rw (reads_string (dictionary es) p at e b).1 refl
 
-    items_listed : (items : Items) (vs : Values) → WellFormed profile levels (list vs) → Begins p at (encode (list vs)) e → list_part items p at e ≡ cond (every (ok_item items) vs) (Checked.Value (whole_at at (list vs))) Checked.Off
+    items_listed : (items : Items) (vs : Values) → WellFormed profile levels (list vs) → Begins p at (encode (list vs)) e → list_part items p at e ≡ cond (every (ok_item items) vs) (Some (whole_at at (list vs))) None
     items_listed items vs h b = let i = list_formed profile levels vs h in go (every (ok_item items) vs) (items_mean profile p i.0 items vs (at + 1) e i.1 (items_begin p at e vs b))
       where
-        go : (t : Bool) → items_end items p (at + 1) ≡ end_if t e → list_part items p at e ≡ cond t (Checked.Value (whole_at at (list vs))) Checked.Off
-        go true j = sym (list_good items p at e (starts (list vs) p at e b) e j) ∙ ap (λ (v : MessageValue). Checked.Value v) (whole_means (list vs) b)
+        go : (t : Bool) → items_end items p (at + 1) ≡ end_if t e → list_part items p at e ≡ cond t (Some (whole_at at (list vs))) None
+        go true j = sym (list_good items p at e (starts (list vs) p at e b) e j) ∙ ap (λ (v : MessageValue). Some v) (whole_means (list vs) b)
         go false j = sym (list_off items p at e (starts (list vs) p at e b) j)
 
     part_means : (items : Items) (x : Value) → WellFormed profile levels x → Begins p at (encode x) e → list_part items p at e ≡ as_list (ok_item items) at x
@@ -87,7 +84,7 @@ module _ (profile : Profile) (levels : ℕ) (p : List ℕ) where
 
     pub format_means : (class : Class) (x : Value) → WellFormed profile levels x → Begins p at (encode x) e → formatted class p at e ≡ judged class at x
     unfolding formatted
-    format_means Class.Unlisted x h b = ap (λ (v : MessageValue). Checked.Value v) (whole_means x b)
+    format_means Class.Unlisted x h b = ap (λ (v : MessageValue). Some v) (whole_means x b)
     format_means Class.Boolean x h b = integer_means (within 0 1) x h b
     format_means Class.Ignored x h b = refl
     format_means Class.Text x h b = text_means x b
@@ -98,38 +95,38 @@ module _ (profile : Profile) (levels : ℕ) (p : List ℕ) where
     format_means Class.IdList x h b = part_means Items.Ids x h b
 
   -- ---- messages
-  valued_same : (k : ℕ) (tag : OptionalTag) (c : Checked) → answer_of (valued p k tag c) ≡ answered (header_length + length p) k tag c
-  valued_same k tag (Checked.Value v) = refl
-  valued_same k tag Checked.Off = refl
+  valued_same : (k : ℕ) (tag : Option Tag) (c : Option MessageValue) → answer_of (valued p k tag c) ≡ answered (header_length + length p) k tag c
+  valued_same k tag (Some v) = refl
+  valued_same k tag None = refl
 
   module _ (key : List ℕ) (x : Value) (e : ℕ) (h : WellFormed profile levels x) (b : Begins p (1 + length (encode_string key)) (encode x) e) where
-    keyed_means : (tag : OptionalTag) → answer_of (valued p (key_number key) tag (formatted (class_of (key_number key)) p (1 + length (encode_string key)) e)) ≡ message_of (header_length + length p) key x tag
+    keyed_means : (tag : Option Tag) → answer_of (valued p (key_number key) tag (formatted (class_of (key_number key)) p (1 + length (encode_string key)) e)) ≡ message_of (header_length + length p) key x tag
     keyed_means tag =
-        ap (λ (c : Checked). answer_of (valued p (key_number key) tag c)) (format_means (1 + length (encode_string key)) e (class_of (key_number key)) x h b)
+        ap (λ (c : Option MessageValue). answer_of (valued p (key_number key) tag c)) (format_means (1 + length (encode_string key)) e (class_of (key_number key)) x h b)
         ∙ valued_same (key_number key) tag (judged (class_of (key_number key)) (1 + length (encode_string key)) x)
 
-    other_means : (f : Fault) → (byte_at p e ≡ 101 → ⊥) → integer_at p e ≡ Number.Fault f → from_tag p (key_number key) (1 + length (encode_string key)) e (tail_at p e) ≡ Reading.NoMessage
+    other_means : (f : Fault) → (byte_at p e ≡ 101 → ⊥) → integer_at p e ≡ Err f → from_tag p (key_number key) (1 + length (encode_string key)) e (tail_at p e) ≡ Err Refusal.NoMessage
     unfolding tail_at
     other_means f no_e q = rw (ne_eqb (byte_at p e) 101 no_e, q) refl
 
-    tagged_means : (z : ℤ) (to : ℕ) → (byte_at p e ≡ 101 → ⊥) → integer_at p e ≡ Number.Integer z to → from_tag p (key_number key) (1 + length (encode_string key)) e (tail_at p e) ≡ from_tag p (key_number key) (1 + length (encode_string key)) e (last_tag p to (tag_of z))
+    tagged_means : (z : ℤ) (to : ℕ) → (byte_at p e ≡ 101 → ⊥) → integer_at p e ≡ Ok (number_of z to) → from_tag p (key_number key) (1 + length (encode_string key)) e (tail_at p e) ≡ from_tag p (key_number key) (1 + length (encode_string key)) e (last_tag p to (tag_of z))
     unfolding tail_at
     tagged_means z to no_e q = rw (ne_eqb (byte_at p e) 101 no_e, q) refl
 
-    last_means : (vs : Values) (to : ℕ) → All (WellFormed profile levels) vs → Begins p to (encode_all vs ++ (101 ∷ [])) (length p) → (z : ℤ) (o : OptionalTag) → tag_of z ≡ o
+    last_means : (vs : Values) (to : ℕ) → All (WellFormed profile levels) vs → Begins p to (encode_all vs ++ (101 ∷ [])) (length p) → (z : ℤ) (o : Option Tag) → tag_of z ≡ o
         → answer_of (from_tag p (key_number key) (1 + length (encode_string key)) e (last_tag p to o)) ≡ last_of (header_length + length p) key x z vs
     unfolding encode
-    last_means no_value to g c z OptionalTag.None q = rw q refl
-    last_means no_value to g c z (OptionalTag.Tag t) q = rw (q, eq-eqb (byte_at p to) 101 (begins_head p to 101 (length p) [] c)) (keyed_means (OptionalTag.Tag t))
-    last_means (value y vs) to g c z OptionalTag.None q = refl
-    last_means (value y vs) to g c z (OptionalTag.Tag t) q =
+    last_means no_value to g c z None q = rw q refl
+    last_means no_value to g c z (Some t) q = rw (q, eq-eqb (byte_at p to) 101 (begins_head p to 101 (length p) [] c)) (keyed_means (Some t))
+    last_means (value y vs) to g c z None q = refl
+    last_means (value y vs) to g c z (Some t) q =
         let d = subst (λ (l : List ℕ). Begins p to l (length p)) (values_text y vs) c in
         let l = begins_left p to (length p) (encode y) (encode_all vs ++ (101 ∷ [])) d in
         rw (ne_eqb (byte_at p to) 101 (value_first p to (to + length (encode y)) y l)) refl
 
     third_means : (vs : Values) → All (WellFormed profile levels) vs → Begins p e (encode_all vs ++ (101 ∷ [])) (length p) → answer_of (from_tag p (key_number key) (1 + length (encode_string key)) e (tail_at p e)) ≡ third_of (header_length + length p) key x vs
     unfolding encode
-    third_means no_value g c = ap (λ (t : Tail). answer_of (from_tag p (key_number key) (1 + length (encode_string key)) e t)) (sym (third_end p e (begins_head p e 101 (length p) [] c))) ∙ keyed_means OptionalTag.None
+    third_means no_value g c = ap (λ (t : Result (Option Tag) Refusal). answer_of (from_tag p (key_number key) (1 + length (encode_string key)) e t)) (sym (third_end p e (begins_head p e 101 (length p) [] c))) ∙ keyed_means None
     third_means (value y vs) g c = kinds y g.0 (begins_left p e (length p) (encode y) (encode_all vs ++ (101 ∷ [])) d) (begins_right p e (length p) (encode y) (encode_all vs ++ (101 ∷ [])) d)
       where
         d : Begins p e (encode y ++ (encode_all vs ++ (101 ∷ []))) (length p)
@@ -148,7 +145,7 @@ module _ (profile : Profile) (levels : ℕ) (p : List ℕ) where
   no_key h = let k = no_string p 1 h in ap answer_of (sym (message_no_key p k.0 k.1))
 
   -- after a key
-  second_means : (key : List ℕ) (start : ℕ) → string_at p 1 ≡ Text.Bytes start (1 + length (encode_string key)) → slice p start (1 + length (encode_string key)) ≡ key
+  second_means : (key : List ℕ) (start : ℕ) → string_at p 1 ≡ Ok (text_of start (1 + length (encode_string key))) → slice p start (1 + length (encode_string key)) ≡ key
       → (vs : Values) → All (WellFormed profile levels) vs → Begins p (1 + length (encode_string key)) (encode_all vs ++ (101 ∷ [])) (length p) → answer_of (message_reading p) ≡ second_of (header_length + length p) key vs
   unfolding encode
   second_means key start text is no_value g c =

@@ -10,11 +10,11 @@ use Rattle.octets.specs.Numerals.{decimal_before, decimal}
 use Rattle.bencode.specs.Value.{integer, encode}
 use Rattle.octets.specs.Ascii.{ascii}
 use Rattle.ipc.specs.declared.versions.Versions.{Versions}
-use Rattle.ipc.specs.declared.versions.OptionalVersions.{OptionalVersions}
-use Rattle.ipc.specs.declared.writer.Written.{Written}
 use Rattle.ipc.specs.HandshakeWriter.{handshake_payload, range_written, handshake_written}
 use Rattle.ipc.specs.Versions.{range_of}
 use Rattle.ipc.specs.Writer.{fitted}
+use Rattle.std.specs.Prelude.{Some, None, Err}
+use Rattle.ipc.specs.declared.writer.WriteRefusal.{WriteRefusal}
 
 -- the parts of a handshake's payload, around two numbers as they are written
 abbrev around : List ℕ → List ℕ → List (List ℕ)
@@ -36,10 +36,10 @@ module _ (low high : ℕ) where
   handshake_length = ap length (sym handshake_parts_lem) ∙ around_length (encode (integer (pos low))) (encode (integer (pos high)))
 
   -- the answer to a handshake
-  pub written_range : (room : ℕ) (v : Versions) → range_of (pos low) (pos high) ≡ OptionalVersions.Range v → handshake_written low high room ≡ fitted (handshake_payload low high) room
+  pub written_range : (room : ℕ) (v : Versions) → range_of (pos low) (pos high) ≡ Some v → handshake_written low high room ≡ fitted (handshake_payload low high) room
   unfolding handshake_written
   written_range room v e = ap (range_written (handshake_payload low high) room) e
 
-  pub written_none : (room : ℕ) → range_of (pos low) (pos high) ≡ OptionalVersions.None → handshake_written low high room ≡ Written.Refused 41
+  pub written_none : (room : ℕ) → range_of (pos low) (pos high) ≡ None → handshake_written low high room ≡ Err WriteRefusal.Value
   unfolding handshake_written
   written_none room e = ap (range_written (handshake_payload low high) room) e

@@ -3,7 +3,7 @@
 use mathlib.Core.Path.{◌≡◌, refl, ap, sym, ◌∙◌}
 use mathlib.Core.List.{List, [], ◌∷◌, ◌++◌, append_assoc, append-nil}
 use mathlib.Core.Logic.{◌⊎◌, inl, inr, ⊎_elim}
-use Prim.Native.Nat.{ℕ, zero, suc, ◌+◌, ◌*◌, ◌-◌, ◌/◌, ◌%◌, ◌^◌, ◌≤◌, ◌<◌, zero-le, suc-le-suc}
+use Prim.Native.Nat.{ℕ, zero, suc, ◌+◌, ◌*◌, ◌/◌, ◌%◌, ◌^◌, ◌≤◌, ◌<◌, zero-le, suc-le-suc}
 use native.Mathlib.Nat.{mul_assoc, add-mul, mul_left_comm, pow-succ', one-le-pow, div-add-mod', mod-lt, div-lt_iff_lt-mul, le-div_iff_mul-le, pow-le-pow_right}
 use native.Mathlib.Omega.{arith}
 use native.Mathlib.Numerals.{add-one}
@@ -49,19 +49,13 @@ shift k a r =
     )
 
 -- a digit stored, of those that are left
-pub put_digit : (out : List ℕ) (o k d p r n : ℕ) → 0 < k → p ≡ 10 ^ (k - 1) → n ≡ d * p + r → r < p
-    → sets (set out o (48 + d)) (o + 1) (places (k - 1) r) ≡ sets out o (places k n)
-put_digit out o k d p r n h e f g =
-    let k' : k ≡ suc (k - 1) = omega arith in
-    let n' : n ≡ d * 10 ^ (k - 1) + r = rw (← e) f in
-    let r' : r < 10 ^ (k - 1) = rw (← e) g in
-    let q : places k n ≡ (48 + d) ∷ places (k - 1) r =
-    ap (λ (j : ℕ). places j n) k' ∙ ap (places (suc (k - 1))) n' ∙ places_cons (k - 1) d r r' in
+pub put_digit : (out : List ℕ) (o k d p r n : ℕ) → p ≡ 10 ^ k → n ≡ d * p + r → r < p
+    → sets (set out o (48 + d)) (o + 1) (places k r) ≡ sets out o (places (suc k) n)
+put_digit out o k d p r n e f g =
+    let n' : n ≡ d * 10 ^ k + r = rw (← e) f in
+    let r' : r < 10 ^ k = rw (← e) g in
+    let q : places (suc k) n ≡ (48 + d) ∷ places k r = ap (places (suc k)) n' ∙ places_cons k d r r' in
     rw (q, add-one o)
-
-pub pow_down : (k : ℕ) → 0 < k → 10 ^ k ≡ 10 * 10 ^ (k - 1)
-pow_down zero h = elim h [ ]
-pow_down (suc k) h = let e : suc k - 1 ≡ k = omega arith in rw e (pow-succ' 10 k)
 
 -- the digits of a number from its first ones and the k lowest
 pub decimal_places : (k a r : ℕ) → 0 < a → r < 10 ^ k → decimal (a * 10 ^ k + r) ≡ decimal a ++ places k r

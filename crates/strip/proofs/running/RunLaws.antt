@@ -6,14 +6,13 @@ use mathlib.Core.Bool.{true, false, cond, not}
 use lib.Dec.{eqb}
 use lib.ListN.{take}
 use Rattle.desk.specs.declared.call.Call.{Call}
-use Rattle.desk.specs.declared.done.Opened.{Opened}
-use Rattle.desk.specs.Opening.{opening}
+use Rattle.desk.specs.Opening.{Opening, opening}
 use Rattle.strip.specs.declared.run.Run.{Run}
 use Rattle.strip.specs.Line.{open_text}
 use Rattle.strip.specs.Run.{with_desk, ended, printing, silent, opened, performed, call_taken, end_taken}
 
 -- what an opening returned, and the step
-pub opened_is : (r : Run) (o : Opened) → o ≡ opening r.gathered.count (take r.gathered.count r.gathered.watch) r.down r.up
+pub opened_is : (r : Run) (o : Opening) → o ≡ opening r.gathered.count (take r.gathered.count r.gathered.watch) r.down r.up
     → printing (open_text o.code) (with_desk o.desk (not (eqb o.code 0)) r.at r) ≡ opened r
 unfolding opened
 opened_is r o e = rw (← e) refl

@@ -6,11 +6,13 @@ use mathlib.Core.Bool.{Bool, true, false, cond}
 use mathlib.Core.List.{List}
 use native.Mathlib.Omega.{arith}
 use lib.ListN.{length}
+use Rattle.std.specs.declared.option.Option.TheVariants.{None, Some}
+use Rattle.std.specs.declared.result.Result.TheVariants.{Ok, Err}
 use Rattle.desk.specs.declared.call.Call.{Call}
 use Rattle.strip.specs.declared.record.Record.{Record}
 use Rattle.strip.specs.declared.run.Run.{Run}
-use Rattle.strip.specs.Record.{record_at}
-use Rattle.strip.specs.Run.{with_limits, with_watch, with_desk, ended, silent, opened, performed, faulted, call_taken, end_taken, taken, stepped, run_after}
+use Rattle.strip.specs.Record.{Found, FoundBy, record_at}
+use Rattle.strip.specs.Run.{with_limits, with_watch, with_desk, ended, silent, opened, performed, faulted, call_taken, end_taken, taken, met, stepped, run_after}
 use Rattle.strip.proofs.records.Forward.{Forward, forward}
 use Rattle.strip.proofs.running.RunLaws.{call_open, call_shut, end_open, end_shut}
 
@@ -60,25 +62,29 @@ module _ (s : List ℕ) (r : Run) (o : r.over ≡ false) where
       go now true = omega (arith, now)
       go now false = omega (arith, now)
 
-  taken_falls : (found : Record) (next : ℕ) → Forward s r.at found next → Falls (taken found next r).run
-  unfolding silent with_limits with_watch faulted ended
+  taken_falls : (found : Record) (next : ℕ) → (r.at < next) × (next ≤ length s) → Falls (taken found next r).run
+  unfolding silent with_limits with_watch
   taken_falls (Record.Limits d u) next (l, h) = on_falls (with_limits d u next r) l h refl refl
-  taken_falls (Record.Watch x m) next (l, h) = on_falls (with_watch (record { id = x; running = m }) next r) l h refl refl
+  taken_falls (Record.Watch w) next (l, h) = on_falls (with_watch w next r) l h refl refl
   taken_falls (Record.Call c) next (l, h) = by_test r.called refl
     where
       by_test : (t : Bool) → r.called ≡ t → Falls (call_taken c next r).run
       by_test true e = rw (call_open r c next e) (performed_falls c next l h e)
       by_test false e = rw (call_shut r c next e) (opened_falls e)
-  taken_falls Record.Fault next f = over_falls (ended r) refl
-  taken_falls Record.End next f = by_test r.called refl
+
+  met_falls : (found : Found) → FoundBy (Forward s r.at) found → Falls (met found r).run
+  unfolding silent faulted ended
+  met_falls (Ok (Some d)) f = taken_falls d.found d.offset f
+  met_falls (Ok None) f = by_test r.called refl
     where
       by_test : (t : Bool) → r.called ≡ t → Falls (end_taken r).run
       by_test true e = rw (end_open r e) (over_falls (ended r) refl)
       by_test false e = rw (end_shut r e) (opened_falls e)
+  met_falls (Err at) f = over_falls (ended r) refl
 
   pub step_falls : Falls (stepped s r).run
   unfolding stepped
-  step_falls = let d = record_at s r.at r.called in taken_falls d.found d.offset (forward s r.at r.called)
+  step_falls = met_falls (record_at s r.at r.called) (forward s r.at r.called)
 
 -- ---- so the run is over after so many steps
 pub over_after : (n : ℕ) (s : List ℕ) (r : Run) → steps_left s r ≤ n → (run_after n s r).over ≡ true

@@ -19,8 +19,8 @@ loop-run-preserved g c =
     let W = g.W.Write.contents in
     let s = c.args.s.now in
     let run = c.loop-run.run in
-    let put : Appends (W c.loop-run.out) (W c.print_output.new.out) (output_bytes (stepped s run).output) = rw (← c.next_step-step.ensures) c.in_ok-print_output.ensures in
-    rw c.next_step-step.ensures (at_step s (W c.args.out.now) (W c.loop-run.out) (W c.print_output.new.out) run (not-true run.over c.loop-run-test.true) c.loop-run.invariant put)
+    let put : Appends (W c.loop-run.out) (W c.write_all.new.self) (output_bytes (stepped s run).output) = rw (← c.next_step-step.ensures, ← c.text.ensures) c.in_ok-write_all.ensures.bytes in
+    rw c.next_step-step.ensures (at_step s (W c.args.out.now) (W c.loop-run.out) (W c.write_all.new.self) run (not-true run.over c.loop-run-test.true) c.loop-run.invariant put)
 
 pub returns : goal.returns
 returns g c = at_end c.args.s.now (g.W.Write.contents c.args.out.now) (g.W.Write.contents c.loop-run.out) c.loop-run.run (not-false c.loop-run.run.over c.loop-run-test.false) c.loop-run.invariant

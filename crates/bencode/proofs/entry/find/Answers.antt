@@ -9,48 +9,48 @@ use Rattle.bencode.proofs.lookup.SkipLaws.{skip_range}
 use Rattle.bencode.proofs.lookup.EntryLaws.{find_none, find_here, find_more}
 use Rattle.bencode.proofs.entry.find.Goals as goal
 
-pub loop-start-init : goal.loop-start-init
-loop-start-init c = refl
+pub loop-text-init : goal.loop-text-init
+loop-text-init c = refl
 
-pub returns-in-Fault : goal.returns-in-Fault
-returns-in-Fault c =
+pub returns-in_default : goal.returns-in_default
+returns-in_default c =
     let a = c.args in
-    let l = c.loop-start in
-    find_none a.s.now a.key.now l.at c.in-Fault.field-0 (sym c.string.ensures ∙ c.in-Fault.is) ∙ l.invariant
+    let l = c.loop-text in
+    find_none a.s.now a.key.now l.at c.in_default.field-0 (sym c.string.ensures ∙ c.in_default.is) ∙ l.invariant
 
 pub slice_bounds-same-count : goal.slice_bounds-same-count
 slice_bounds-same-count c =
-    let w = string_whole_inv c.args.s.now c.loop-start.at c.in-Bytes.start c.in-Bytes.end (sym c.string.ensures ∙ c.in-Bytes.is) in
+    let w = string_whole_inv c.args.s.now c.loop-text.at c.in-Ok.text.start c.in-Ok.text.end (sym c.string.ensures ∙ c.in-Ok.is) in
     omega arith
 
 pub slice_bounds-same-start : goal.slice_bounds-same-start
 slice_bounds-same-start c =
-    let w = string_whole_inv c.args.s.now c.loop-start.at c.in-Bytes.start c.in-Bytes.end (sym c.string.ensures ∙ c.in-Bytes.is) in
+    let w = string_whole_inv c.args.s.now c.loop-text.at c.in-Ok.text.start c.in-Ok.text.end (sym c.string.ensures ∙ c.in-Ok.is) in
     omega arith
 
 pub slice_bounds-same-end : goal.slice_bounds-same-end
 slice_bounds-same-end c =
-    let w = string_whole_inv c.args.s.now c.loop-start.at c.in-Bytes.start c.in-Bytes.end (sym c.string.ensures ∙ c.in-Bytes.is) in
+    let w = string_whole_inv c.args.s.now c.loop-text.at c.in-Ok.text.start c.in-Ok.text.end (sym c.string.ensures ∙ c.in-Ok.is) in
     omega arith
 
 pub returns-then-same : goal.returns-then-same
 returns-then-same c =
     let a = c.args in
-    let l = c.loop-start in
-    find_here a.s.now a.key.now l.at c.in-Bytes.start c.in-Bytes.end (sym c.string.ensures ∙ c.in-Bytes.is) (sym c.same.ensures ∙ c.if-same.true) ∙ l.invariant
+    let l = c.loop-text in
+    find_here a.s.now a.key.now l.at c.in-Ok.text.start c.in-Ok.text.end (sym c.string.ensures ∙ c.in-Ok.is) (sym c.same.ensures ∙ c.if-same.true) ∙ l.invariant
 
-pub loop-start-smaller : goal.loop-start-smaller
-loop-start-smaller c =
+pub loop-text-smaller : goal.loop-text-smaller
+loop-text-smaller c =
     let s = c.args.s.now in
-    let l = c.loop-start in
-    let w = string_whole_inv s l.at c.in-Bytes.start c.in-Bytes.end (sym c.string.ensures ∙ c.in-Bytes.is) in
-    let r = skip_range s c.in-Bytes.end 0 w.within in
+    let l = c.loop-text in
+    let w = string_whole_inv s l.at c.in-Ok.text.start c.in-Ok.text.end (sym c.string.ensures ∙ c.in-Ok.is) in
+    let r = skip_range s c.in-Ok.text.end 0 w.within in
     omega (arith, c.skip_value-at.ensures)
 
-pub loop-start-preserved : goal.loop-start-preserved
-loop-start-preserved c =
+pub loop-text-preserved : goal.loop-text-preserved
+loop-text-preserved c =
     let a = c.args in
-    let l = c.loop-start in
+    let l = c.loop-text in
     ap (λ (j : ℕ). entry_at a.s.now a.key.now j) c.skip_value-at.ensures
-    ∙ find_more a.s.now a.key.now l.at c.in-Bytes.start c.in-Bytes.end (sym c.string.ensures ∙ c.in-Bytes.is) (sym c.same.ensures ∙ c.if-same.false)
+    ∙ find_more a.s.now a.key.now l.at c.in-Ok.text.start c.in-Ok.text.end (sym c.string.ensures ∙ c.in-Ok.is) (sym c.same.ensures ∙ c.if-same.false)
     ∙ l.invariant

@@ -1,7 +1,9 @@
 -- `bencode::flat::first_value` meets its contract: where the loop stands is a `Stand` of `OpenLevels`, and each way of a turn lands.
 -- Assumes nothing.
+use Rattle.std.specs.Prelude.{Ok, Err}
 use Prim.Native.Nat.{◌+◌}
-use mathlib.Core.Path.{refl, sym, subst, ◌∙◌}
+use mathlib.Core.Path.{refl, sym, ap, subst, ◌∙◌}
+use Rattle.std.proofs.lemmas.Result.{err_from_is_err_and}
 use mathlib.Core.Bool.{false}
 use native.Mathlib.Omega.{arith}
 use lib.ListN.{set}
@@ -13,38 +15,46 @@ use Rattle.bencode.proofs.walking.OpenLevels.{Stand, stand_depth, stand_sound, s
 use Rattle.bencode.proofs.walking.FlatLaws.{lands_told}
 use Rattle.bencode.proofs.flat.first_value.Goals as goal
 
-pub loop-walk-init : goal.loop-walk-init
-loop-walk-init c = starts c.args.profile c.args.s.now _ c.opened-level.result refl c.opened-level.ensures
+pub loop-token-init : goal.loop-token-init
+loop-token-init c = starts c.args.profile c.args.s.now _ c.opened-level.result refl c.opened-level.ensures
 
 pub token_at-requires : goal.token_at-requires
 token_at-requires c =
     let a = c.args in
     let s = a.s.now in
-    let l = c.loop-walk in
+    let l = c.loop-token in
     let w = stand_sound a.profile s l.row l.depth l.level l.valued l.at l.invariant in
-    (w.0, w.1, c.classes-table.ensures)
+    record { sound = w; table = c.classes-table.ensures }
+
+pub returns-in_err-token : goal.returns-in_err-token
+returns-in_err-token c =
+    let a = c.args in
+    let s = a.s.now in
+    let l = c.loop-token in
+    let p = err_from_is_err_and c.from_residual.result c.from_residual.ensures.1 in
+    rw (p.1, p.2) (lands_told a.profile s l.row l.depth l.level l.valued l.at l.invariant (Err c.in_err-token.field-0.0) (sym c.token_at.ensures ∙ c.in_err-token.was))
 
 pub returns-in-Done : goal.returns-in-Done
 returns-in-Done c =
     let a = c.args in
     let s = a.s.now in
-    let l = c.loop-walk in
-    lands_told a.profile s l.row l.depth l.level l.valued l.at l.invariant (Token.Done c.in-Done.walk) (sym c.token_at.ensures ∙ c.in-Done.is)
+    let l = c.loop-token in
+    lands_told a.profile s l.row l.depth l.level l.valued l.at l.invariant (Ok (Token.Done c.in-Done.end)) (sym c.token_at.ensures ∙ c.in_ok-token.was ∙ ap Ok c.in-Done.is)
 
 pub overflow_sub-depth : goal.overflow_sub-depth
 overflow_sub-depth c =
     let a = c.args in
     let s = a.s.now in
-    let l = c.loop-walk in
-    let deep = close_deep a.profile s l.depth l.level l.valued l.at (sym c.token_at.ensures ∙ c.in-Close.is) in
+    let l = c.loop-token in
+    let deep = close_deep a.profile s l.depth l.level l.valued l.at (sym c.token_at.ensures ∙ c.in_ok-token.was ∙ ap Ok c.in-Close.is) in
     omega arith
 
 pub offset_bounds-row-depth : goal.offset_bounds-row-depth
 offset_bounds-row-depth c =
     let a = c.args in
     let s = a.s.now in
-    let l = c.loop-walk in
-    let deep = close_deep a.profile s l.depth l.level l.valued l.at (sym c.token_at.ensures ∙ c.in-Close.is) in
+    let l = c.loop-token in
+    let deep = close_deep a.profile s l.depth l.level l.valued l.at (sym c.token_at.ensures ∙ c.in_ok-token.was ∙ ap Ok c.in-Close.is) in
     let most = stand_depth a.profile s l.row l.depth l.level l.valued l.at l.invariant in
     omega arith
 
@@ -52,8 +62,8 @@ pub bounds-row-depth : goal.bounds-row-depth
 bounds-row-depth c =
     let a = c.args in
     let s = a.s.now in
-    let l = c.loop-walk in
-    let deep = close_deep a.profile s l.depth l.level l.valued l.at (sym c.token_at.ensures ∙ c.in-Close.is) in
+    let l = c.loop-token in
+    let deep = close_deep a.profile s l.depth l.level l.valued l.at (sym c.token_at.ensures ∙ c.in_ok-token.was ∙ ap Ok c.in-Close.is) in
     let most = stand_depth a.profile s l.row l.depth l.level l.valued l.at l.invariant in
     omega arith
 
@@ -61,105 +71,105 @@ pub overflow_add-at : goal.overflow_add-at
 overflow_add-at c =
     let a = c.args in
     let s = a.s.now in
-    let l = c.loop-walk in
-    let h = lands_told a.profile s l.row l.depth l.level l.valued l.at l.invariant Token.Close (sym c.token_at.ensures ∙ c.in-Close.is) in
+    let l = c.loop-token in
+    let h = lands_told a.profile s l.row l.depth l.level l.valued l.at l.invariant (Ok Token.Close) (sym c.token_at.ensures ∙ c.in_ok-token.was ∙ ap Ok c.in-Close.is) in
     omega (arith, h.0)
 
-pub loop-walk-smaller-in-Close : goal.loop-walk-smaller-in-Close
-loop-walk-smaller-in-Close c =
+pub loop-token-smaller-in-Close : goal.loop-token-smaller-in-Close
+loop-token-smaller-in-Close c =
     let a = c.args in
     let s = a.s.now in
-    let l = c.loop-walk in
-    let h = lands_told a.profile s l.row l.depth l.level l.valued l.at l.invariant Token.Close (sym c.token_at.ensures ∙ c.in-Close.is) in
+    let l = c.loop-token in
+    let h = lands_told a.profile s l.row l.depth l.level l.valued l.at l.invariant (Ok Token.Close) (sym c.token_at.ensures ∙ c.in_ok-token.was ∙ ap Ok c.in-Close.is) in
     omega (arith, h.0)
 
-pub loop-walk-preserved-in-Close : goal.loop-walk-preserved-in-Close
-loop-walk-preserved-in-Close c =
+pub loop-token-preserved-in-Close : goal.loop-token-preserved-in-Close
+loop-token-preserved-in-Close c =
     let a = c.args in
     let s = a.s.now in
-    let l = c.loop-walk in
-    let h = lands_told a.profile s l.row l.depth l.level l.valued l.at l.invariant Token.Close (sym c.token_at.ensures ∙ c.in-Close.is) in
+    let l = c.loop-token in
+    let h = lands_told a.profile s l.row l.depth l.level l.valued l.at l.invariant (Ok Token.Close) (sym c.token_at.ensures ∙ c.in_ok-token.was ∙ ap Ok c.in-Close.is) in
     h.1
 
-pub loop-walk-smaller-in-Key : goal.loop-walk-smaller-in-Key
-loop-walk-smaller-in-Key c =
+pub loop-token-smaller-in-Key : goal.loop-token-smaller-in-Key
+loop-token-smaller-in-Key c =
     let a = c.args in
     let s = a.s.now in
-    let l = c.loop-walk in
-    let h = lands_told a.profile s l.row l.depth l.level l.valued l.at l.invariant (Token.Key c.in-Key.seen c.in-Key.end) (sym c.token_at.ensures ∙ c.in-Key.is) in
+    let l = c.loop-token in
+    let h = lands_told a.profile s l.row l.depth l.level l.valued l.at l.invariant (Ok (Token.Key c.in-Key.seen c.in-Key.end)) (sym c.token_at.ensures ∙ c.in_ok-token.was ∙ ap Ok c.in-Key.is) in
     omega (arith, h.0)
 
-pub loop-walk-preserved-in-Key : goal.loop-walk-preserved-in-Key
-loop-walk-preserved-in-Key c =
+pub loop-token-preserved-in-Key : goal.loop-token-preserved-in-Key
+loop-token-preserved-in-Key c =
     let a = c.args in
     let s = a.s.now in
-    let l = c.loop-walk in
-    let h = lands_told a.profile s l.row l.depth l.level l.valued l.at l.invariant (Token.Key c.in-Key.seen c.in-Key.end) (sym c.token_at.ensures ∙ c.in-Key.is) in
+    let l = c.loop-token in
+    let h = lands_told a.profile s l.row l.depth l.level l.valued l.at l.invariant (Ok (Token.Key c.in-Key.seen c.in-Key.end)) (sym c.token_at.ensures ∙ c.in_ok-token.was ∙ ap Ok c.in-Key.is) in
     h.1
 
 pub overflow_add-at-in-Open : goal.overflow_add-at-in-Open
 overflow_add-at-in-Open c =
     let a = c.args in
     let s = a.s.now in
-    let l = c.loop-walk in
-    let h = lands_told a.profile s l.row l.depth l.level l.valued l.at l.invariant (Token.Open c.in-Open.mark) (sym c.token_at.ensures ∙ c.in-Open.is) in
+    let l = c.loop-token in
+    let h = lands_told a.profile s l.row l.depth l.level l.valued l.at l.invariant (Ok (Token.Open c.in-Open.bracket)) (sym c.token_at.ensures ∙ c.in_ok-token.was ∙ ap Ok c.in-Open.is) in
     omega (arith, h.0)
 
 pub offset_bounds-row-depth-in-Open : goal.offset_bounds-row-depth-in-Open
 offset_bounds-row-depth-in-Open c =
     let a = c.args in
     let s = a.s.now in
-    let l = c.loop-walk in
-    let h = lands_told a.profile s l.row l.depth l.level l.valued l.at l.invariant (Token.Open c.in-Open.mark) (sym c.token_at.ensures ∙ c.in-Open.is) in
-    let most = stand_depth a.profile s (set l.row l.depth l.level) (l.depth + 1) (opened c.in-Open.mark (l.at + 1)) false (l.at + 1) h.1 in
+    let l = c.loop-token in
+    let h = lands_told a.profile s l.row l.depth l.level l.valued l.at l.invariant (Ok (Token.Open c.in-Open.bracket)) (sym c.token_at.ensures ∙ c.in_ok-token.was ∙ ap Ok c.in-Open.is) in
+    let most = stand_depth a.profile s (set l.row l.depth l.level) (l.depth + 1) (opened c.in-Open.bracket (l.at + 1)) false (l.at + 1) h.1 in
     omega arith
 
 pub bounds-row-depth-in-Open : goal.bounds-row-depth-in-Open
 bounds-row-depth-in-Open c =
     let a = c.args in
     let s = a.s.now in
-    let l = c.loop-walk in
-    let h = lands_told a.profile s l.row l.depth l.level l.valued l.at l.invariant (Token.Open c.in-Open.mark) (sym c.token_at.ensures ∙ c.in-Open.is) in
-    let most = stand_depth a.profile s (set l.row l.depth l.level) (l.depth + 1) (opened c.in-Open.mark (l.at + 1)) false (l.at + 1) h.1 in
+    let l = c.loop-token in
+    let h = lands_told a.profile s l.row l.depth l.level l.valued l.at l.invariant (Ok (Token.Open c.in-Open.bracket)) (sym c.token_at.ensures ∙ c.in_ok-token.was ∙ ap Ok c.in-Open.is) in
+    let most = stand_depth a.profile s (set l.row l.depth l.level) (l.depth + 1) (opened c.in-Open.bracket (l.at + 1)) false (l.at + 1) h.1 in
     omega arith
 
 pub overflow_add-depth : goal.overflow_add-depth
 overflow_add-depth c =
     let a = c.args in
     let s = a.s.now in
-    let l = c.loop-walk in
-    let h = lands_told a.profile s l.row l.depth l.level l.valued l.at l.invariant (Token.Open c.in-Open.mark) (sym c.token_at.ensures ∙ c.in-Open.is) in
-    let most = stand_depth a.profile s (set l.row l.depth l.level) (l.depth + 1) (opened c.in-Open.mark (l.at + 1)) false (l.at + 1) h.1 in
+    let l = c.loop-token in
+    let h = lands_told a.profile s l.row l.depth l.level l.valued l.at l.invariant (Ok (Token.Open c.in-Open.bracket)) (sym c.token_at.ensures ∙ c.in_ok-token.was ∙ ap Ok c.in-Open.is) in
+    let most = stand_depth a.profile s (set l.row l.depth l.level) (l.depth + 1) (opened c.in-Open.bracket (l.at + 1)) false (l.at + 1) h.1 in
     omega arith
 
-pub loop-walk-smaller-in-Open : goal.loop-walk-smaller-in-Open
-loop-walk-smaller-in-Open c =
+pub loop-token-smaller-in-Open : goal.loop-token-smaller-in-Open
+loop-token-smaller-in-Open c =
     let a = c.args in
     let s = a.s.now in
-    let l = c.loop-walk in
-    let h = lands_told a.profile s l.row l.depth l.level l.valued l.at l.invariant (Token.Open c.in-Open.mark) (sym c.token_at.ensures ∙ c.in-Open.is) in
+    let l = c.loop-token in
+    let h = lands_told a.profile s l.row l.depth l.level l.valued l.at l.invariant (Ok (Token.Open c.in-Open.bracket)) (sym c.token_at.ensures ∙ c.in_ok-token.was ∙ ap Ok c.in-Open.is) in
     omega (arith, h.0)
 
-pub loop-walk-preserved-in-Open : goal.loop-walk-preserved-in-Open
-loop-walk-preserved-in-Open c =
+pub loop-token-preserved-in-Open : goal.loop-token-preserved-in-Open
+loop-token-preserved-in-Open c =
     let a = c.args in
     let s = a.s.now in
-    let l = c.loop-walk in
-    let h = lands_told a.profile s l.row l.depth l.level l.valued l.at l.invariant (Token.Open c.in-Open.mark) (sym c.token_at.ensures ∙ c.in-Open.is) in
+    let l = c.loop-token in
+    let h = lands_told a.profile s l.row l.depth l.level l.valued l.at l.invariant (Ok (Token.Open c.in-Open.bracket)) (sym c.token_at.ensures ∙ c.in_ok-token.was ∙ ap Ok c.in-Open.is) in
     subst (λ (x : Level). Stand a.profile s (set l.row l.depth l.level) (l.depth + 1) x false (l.at + 1)) (sym c.opened-inner.ensures) h.1
 
-pub loop-walk-smaller : goal.loop-walk-smaller
-loop-walk-smaller c =
+pub loop-token-smaller : goal.loop-token-smaller
+loop-token-smaller c =
     let a = c.args in
     let s = a.s.now in
-    let l = c.loop-walk in
-    let h = lands_told a.profile s l.row l.depth l.level l.valued l.at l.invariant (Token.Scalar c.in-Scalar.end) (sym c.token_at.ensures ∙ c.in-Scalar.is) in
+    let l = c.loop-token in
+    let h = lands_told a.profile s l.row l.depth l.level l.valued l.at l.invariant (Ok (Token.Scalar c.in-Scalar.end)) (sym c.token_at.ensures ∙ c.in_ok-token.was ∙ ap Ok c.in-Scalar.is) in
     omega (arith, h.0)
 
-pub loop-walk-preserved : goal.loop-walk-preserved
-loop-walk-preserved c =
+pub loop-token-preserved : goal.loop-token-preserved
+loop-token-preserved c =
     let a = c.args in
     let s = a.s.now in
-    let l = c.loop-walk in
-    let h = lands_told a.profile s l.row l.depth l.level l.valued l.at l.invariant (Token.Scalar c.in-Scalar.end) (sym c.token_at.ensures ∙ c.in-Scalar.is) in
+    let l = c.loop-token in
+    let h = lands_told a.profile s l.row l.depth l.level l.valued l.at l.invariant (Ok (Token.Scalar c.in-Scalar.end)) (sym c.token_at.ensures ∙ c.in_ok-token.was ∙ ap Ok c.in-Scalar.is) in
     h.1

@@ -7,4 +7,4 @@ use Rattle.bencode.proofs.marks.place.Goals as goal
 
 pub returns : goal.returns
 unfolding place_of
-returns c = (rw (c.wide-first.ensures, c.byte_at.ensures, c.wide.ensures, c.last.ensures) refl, omega arith)
+returns c = (rw (c.from-first.ensures, c.byte_at.ensures, c.from.ensures, c.last.ensures) refl, omega arith)

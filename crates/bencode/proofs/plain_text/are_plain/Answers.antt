@@ -1,30 +1,23 @@
--- `bencode::plain_text::are_plain` meets its contract: where both tests pass, `plain_word` has it.
+-- `bencode::plain_text::are_plain` meets its contract: where both tests pass, `read_plain` has it.
 -- Assumes nothing.
-use Prim.Native.Nat.{ℕ, ◌+◌}
-use mathlib.Core.Path.{refl, sym, ap, ◌∙◌}
-use mathlib.Core.Bool.{false}
+use Prim.Native.Nat.{◌+◌}
+use mathlib.Core.Path.{sym, ap, ◌∙◌}
 use native.Mathlib.Omega.{arith}
-use lib.Bits.{bit_and}
+use borrow.Author.Rules.{rules}
 use borrow.Author.Tests.{eqb-true}
-use Rattle.octets.proofs.sequences.Order.{clash}
-use Rattle.bencode.proofs.utf8.WordLaws.{low_sum, plain_word}
+use lib.Bits.{bit_and}
+use Rattle.bencode.proofs.utf8.WordLaws.{read_room, read_plain}
 use Rattle.bencode.proofs.plain_text.are_plain.Goals as goal
-
-pub returns-then-w-ne0 : goal.returns-then-w-ne0
-returns-then-w-ne0 c h = clash false h refl
 
 pub overflow_add-result : goal.overflow_add-result
 overflow_add-result c =
-    let a = c.args in
-    let w = c.word_of-w.ensures in
-    let z = ap (λ (x : ℕ). bit_and x 0x8080808080808080) (sym w) ∙ c.if-w-ne0.false in
-    let fits = low_sum a.a a.b a.c a.d a.e a.f a.g a.h (omega arith) (omega arith) (omega arith) (omega arith) (omega arith) (omega arith) (omega arith) (omega arith) z in
-    omega (arith, fits, w)
+    let w = c.from_le_bytes-w.ensures in
+    let z = ap (λ (x : _). bit_and x 0x8080808080808080) (sym w) ∙ c.if-w-eq0.true in
+    omega (arith, read_room c.args.bytes.now (λ k h. search rules) z, w)
 
-pub returns : goal.returns
-returns c h =
-    let a = c.args in
-    let w = c.word_of-w.ensures in
-    let z = ap (λ (x : ℕ). bit_and x 0x8080808080808080) (sym w) ∙ c.if-w-ne0.false in
-    let y = ap (λ (x : ℕ). bit_and (x + 0x7F7F7F7F7F7F7F7F) 0x8080808080808080) (sym w) ∙ eqb-true _ _ h in
-    plain_word a.a a.b a.c a.d a.e a.f a.g a.h (omega arith) (omega arith) (omega arith) (omega arith) (omega arith) (omega arith) (omega arith) (omega arith) z y
+pub returns-then-w-eq0 : goal.returns-then-w-eq0
+returns-then-w-eq0 c h =
+    let w = c.from_le_bytes-w.ensures in
+    let z = ap (λ (x : _). bit_and x 0x8080808080808080) (sym w) ∙ c.if-w-eq0.true in
+    let y = ap (λ (x : _). bit_and (x + 0x7F7F7F7F7F7F7F7F) 0x8080808080808080) (sym w) ∙ eqb-true _ _ h in
+    read_plain c.args.bytes.now (λ k h. search rules) z y

@@ -25,7 +25,7 @@ returns-then-lacks_room-2 c =
     let text_room = ltb-false _ _ (sym c.lacks_room.ensures ∙ c.if-lacks_room.false) in
     let no_head_room = ltb-true _ _ (sym c.lacks_room-2.ensures ∙ c.if-lacks_room-2.true) in
     let none : length c.args.out.now < c.args.at + length (encode_string c.args.text.now) =
-    omega (arith, string_size c.args.text.now, c.decimal_length-head.ensures.0, text_room, no_head_room) in
+    omega (arith, string_size c.args.text.now, c.string_head.ensures.0, text_room, no_head_room) in
     put_none none
 
 -- there is room for all of it
@@ -33,7 +33,7 @@ room : (c : Else-lacks_room-2) → c.args.at + length (encode_string c.args.text
 room c =
     let text_room = ltb-false _ _ (sym c.lacks_room.ensures ∙ c.if-lacks_room.false) in
     let head_room = ltb-false _ _ (sym c.lacks_room-2.ensures ∙ c.if-lacks_room-2.false) in
-    omega (arith, string_size c.args.text.now, c.decimal_length-head.ensures.0, text_room, head_room)
+    omega (arith, string_size c.args.text.now, c.string_head.ensures.0, text_room, head_room)
 
 pub store_string-requires : goal.store_string-requires
 store_string-requires c = room (goal.at.store_string-requires c).Else-lacks_room-2

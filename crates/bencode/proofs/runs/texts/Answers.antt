@@ -1,28 +1,39 @@
 -- `bencode::runs::texts` meets its contract: the short strings by `short_texts`, and then one by `after_string`.
 -- Assumes nothing.
-use mathlib.Core.Path.{sym, ◌∙◌}
+use Prim.Native.Nat.{ℕ}
+use mathlib.Core.Path.{◌≡◌, sym}
+use mathlib.Core.Logic.{⊎_elim}
 use native.Mathlib.Omega.{arith}
-use Rattle.bencode.specs.Runs.{none, more, TextAt}
-use Rattle.bencode.proofs.lookup.RunLaws.{run_append, run_item_past, text_after, text_past}
+use borrow.Author.Rules.{rules}
+use Rattle.std.specs.Prelude.{Some, None}
+use Rattle.bencode.specs.Fault.{after_of}
+use Rattle.bencode.specs.Runs.{Run, none, more, TextAt}
+use Rattle.bencode.specs.Strings.{string_at, text_end}
+use Rattle.bencode.proofs.lookup.RunLaws.{run_join, run_up, text_after, text_past}
 use Rattle.bencode.proofs.runs.texts.Goals as goal
 
-pub loop-from-init : goal.loop-from-init
-loop-from-init c = none
-
-pub returns-then-end-eq0 : goal.returns-then-end-eq0
-returns-then-end-eq0 c = (run_append (TextAt c.args.s.now) c.args.from c.loop-from.at c.short_texts-last.result c.loop-from.invariant c.short_texts-last.ensures, sym c.after_string-end.ensures ∙ c.if-end-eq0.true)
-
-pub loop-from-smaller : goal.loop-from-smaller
-loop-from-smaller c =
+pub all_items-requires-clause-passes : goal.all_items-requires-clause-passes
+all_items-requires-clause-passes c at end p =
     let s = c.args.s.now in
-    let last = c.short_texts-last.result in
-    let r = c.after_string-end.result in
-    omega (arith, run_item_past s (TextAt s) (text_past s) c.loop-from.at last r c.short_texts-last.ensures (text_after s last r c.if-end-eq0.false c.after_string-end.ensures))
+    let h : Run (TextAt s) at end = search rules in
+    run_up (TextAt s) (λ i j q. omega (arith, text_past s i j q)) at end h
 
-pub loop-from-preserved : goal.loop-from-preserved
-loop-from-preserved c =
+pub all_items-requires-clause-onward : goal.all_items-requires-clause-onward
+all_items-requires-clause-onward c at end p =
     let s = c.args.s.now in
-    let from = c.args.from in
-    let last = c.short_texts-last.result in
-    let r = c.after_string-end.result in
-    more last r (run_append (TextAt s) from c.loop-from.at last c.loop-from.invariant c.short_texts-last.ensures) (text_after s last r c.if-end-eq0.false c.after_string-end.ensures)
+    let e : Some end ≡ after_of (text_end (string_at s at)) = search rules in
+    omega (arith, text_past s at end (text_after s at end (sym e)))
+
+pub returns : goal.returns
+returns c =
+    let s = c.args.s.now in
+    let to = c.all_items.result in
+    let last = c.all_items.ensures.last in
+    let e : None ≡ after_of (text_end (string_at s to)) = search rules in (
+      run_join _ (TextAt s)
+          (λ (i j : ℕ) part.
+          ⊎_elim {C = Run (TextAt s) i j} (λ p. search rules)
+          (λ p. let e : Some j ≡ after_of (text_end (string_at s i)) = search rules in more i j none (text_after s i j (sym e))) part)
+          c.args.from to c.all_items.ensures.items,
+      sym e,
+    )

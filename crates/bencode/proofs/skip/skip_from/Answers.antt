@@ -73,12 +73,12 @@ loop-depth-preserved-then-b-eq101 c =
     let b = c.byte_at-b.ensures in
     (omega arith, skip_close s l.at l.depth (sym b ∙ c.if-b-eq101.true) c.if-depth-le1.false ∙ l.invariant.1)
 
-pub returns-then-end-eq0 : goal.returns-then-end-eq0
-returns-then-end-eq0 c =
+pub returns-in_default : goal.returns-in_default
+returns-in_default c =
     let s = c.args.s.now in
     let l = c.loop-depth in
     let b = c.byte_at-b.ensures in
-    let f = after_fault s l.at c.after_scalar-end.result c.after_scalar-end.ensures c.if-end-eq0.true in
+    let f = after_fault s l.at (sym c.in_default.ensures) in
     skip_fault s l.at l.depth (sym (c.opens.ensures ∙ ap opens b) ∙ c.if-opens.false) (λ e. c.if-b-eq101.false (b ∙ e)) f.0 f.1 ∙ l.invariant.1
 
 pub returns-then-depth-eq0 : goal.returns-then-depth-eq0
@@ -86,18 +86,17 @@ returns-then-depth-eq0 c =
     let s = c.args.s.now in
     let l = c.loop-depth in
     let b = c.byte_at-b.ensures in
-    let r = c.after_scalar-end in
-    let x = after_end (scalar_at s l.at) r.result r.ensures c.if-end-eq0.false in
-    skip_scalar_last s l.at l.depth (sym (c.opens.ensures ∙ ap opens b) ∙ c.if-opens.false) (λ e. c.if-b-eq101.false (b ∙ e)) r.result x c.if-depth-eq0.true ∙ l.invariant.1
+    let r = c.in-Some.end in
+    let x = after_end (scalar_at s l.at) r (sym c.in-Some.ensures) in
+    skip_scalar_last s l.at l.depth (sym (c.opens.ensures ∙ ap opens b) ∙ c.if-opens.false) (λ e. c.if-b-eq101.false (b ∙ e)) r x c.if-depth-eq0.true ∙ l.invariant.1
 
 pub loop-depth-smaller : goal.loop-depth-smaller
 loop-depth-smaller c =
     let s = c.args.s.now in
     let l = c.loop-depth in
-    let b = c.byte_at-b.ensures in
-    let r = c.after_scalar-end in
-    let x = after_end (scalar_at s l.at) r.result r.ensures c.if-end-eq0.false in
-    let h = scalar_ends s l.at r.result x in
+    let r = c.in-Some.end in
+    let x = after_end (scalar_at s l.at) r (sym c.in-Some.ensures) in
+    let h = scalar_ends s l.at r x in
     omega arith
 
 pub loop-depth-preserved : goal.loop-depth-preserved
@@ -105,7 +104,7 @@ loop-depth-preserved c =
     let s = c.args.s.now in
     let l = c.loop-depth in
     let b = c.byte_at-b.ensures in
-    let r = c.after_scalar-end in
-    let x = after_end (scalar_at s l.at) r.result r.ensures c.if-end-eq0.false in
-    let h = scalar_ends s l.at r.result x in
-    (omega arith, skip_scalar s l.at l.depth (sym (c.opens.ensures ∙ ap opens b) ∙ c.if-opens.false) (λ e. c.if-b-eq101.false (b ∙ e)) r.result x c.if-depth-eq0.false ∙ l.invariant.1)
+    let r = c.in-Some.end in
+    let x = after_end (scalar_at s l.at) r (sym c.in-Some.ensures) in
+    let h = scalar_ends s l.at r x in
+    (omega arith, skip_scalar s l.at l.depth (sym (c.opens.ensures ∙ ap opens b) ∙ c.if-opens.false) (λ e. c.if-b-eq101.false (b ∙ e)) r x c.if-depth-eq0.false ∙ l.invariant.1)

@@ -5,4 +5,4 @@ use Rattle.c_api.specs.Sort.{sort_numbers}
 use Rattle.c_api.proofs.sort.bogsilver_sort.Goals as goal
 
 pub returns : goal.returns
-returns c = record { answered = c.sort_answer_of.ensures ∙ ap sort_numbers c.sort.ensures.answered; buffer = c.sort.ensures.buffer }
+returns c = record { answered = c.from.ensures ∙ ap sort_numbers c.sort.ensures.answered; buffer = c.sort.ensures.buffer }

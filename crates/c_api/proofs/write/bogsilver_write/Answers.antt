@@ -4,6 +4,7 @@ use mathlib.Core.Path.{◌≡◌, sym}
 use lib.ListN.{length}
 use mir.Syntax.{w64}
 use mir.ValLaws.{to_z-of_z}
+use Rattle.ipc.specs.declared.writer.WriteRefusal.{WriteRefusal}
 use Rattle.c_api.specs.Offered.{offered}
 use Rattle.c_api.proofs.answers.AnswerLaws.{leaves_numbers, refused_numbers, key_refused, leaves_as}
 use Rattle.c_api.proofs.write.bogsilver_write.Goals as goal
@@ -11,7 +12,7 @@ use Rattle.c_api.proofs.write.bogsilver_write.Goals as goal
 pub returns-then-key-gt255 : goal.returns-then-key-gt255
 returns-then-key-gt255 c =
     let a = c.args in
-    refused_numbers _ _ _ 40 (key_refused a.key c.if-key-gt255.true (offered a.kind a.integer) a.s.now a.tag (length a.out.now)) c.write_answer_of.ensures
+    refused_numbers _ _ _ WriteRefusal.Key (key_refused a.key c.if-key-gt255.true (offered a.kind a.integer) a.s.now a.tag (length a.out.now)) c.write_answer_of.ensures
 
 pub returns : goal.returns
 returns c =

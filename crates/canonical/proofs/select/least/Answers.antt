@@ -1,54 +1,52 @@
 -- `canonical::select::least` meets its contract.
 -- Assumes nothing.
-use Prim.Native.Nat.{ℕ}
-use mathlib.Core.Path.{refl, sym, ap₂, subst, ◌∙◌}
-use native.Mathlib.Omega.{arith}
-use Rattle.bencode.proofs.walking.Ends.{string_whole_inv}
-use Rattle.bencode.proofs.lookup.SkipLaws.{skip_range}
+use mathlib.Core.Path.{◌≡◌, sym, ap, ◌∙◌}
+use Rattle.std.proofs.Common.{rules}
+use Rattle.std.specs.Prelude.{Option, None, Some}
 use Rattle.canonical.specs.declared.select.Pick.{Pick}
-use Rattle.canonical.specs.SortWalk.{bound_of, Inside, least_at}
-use Rattle.canonical.proofs.walks.Steps.{least_end, least_more}
-use Rattle.canonical.proofs.walks.PickLaws.{preferred_inside}
+use Rattle.canonical.specs.SortWalk.{bound_of, preferred_at, least_at}
+use Rattle.canonical.proofs.walks.PickLaws.{each_option, below_told, preferred_new, preferred_old, preferred_written}
+use Rattle.canonical.proofs.walks.Steps.{step_of, least_end, least_more}
 use Rattle.canonical.proofs.select.least.Goals as goal
+use Rattle.canonical.proofs.select.least.Goals.{else-is_past-via-then-is_past+else-is_none_or, else-is_past-via-else-is_past}
 
-pub loop-best-init : goal.loop-best-init
-loop-best-init c = (refl, tt)
+pub loop-entry-preserved-then-is_none_or : goal.loop-entry-preserved-then-is_none_or
+loop-entry-preserved-then-is_none_or c =
+    let s = c.args.s.now in
+    let l = c.loop-entry in
+    let e = c.in-Some.entry in
+    let b = bound_of s c.args.last in
+    let step = step_of l.entry-iterator.at c.next.new.self.at (Some e) l.invariant.walks c.in-Some.ensures.steps.1 in
+    let below = below_told s l.best e c.is_none_or.result (each_option l.best c.is_none_or.ensures (λ q. q) (λ o q. search rules)) in
+    let new = preferred_new s b l.best e (sym c.if-is_past.ensures) (sym below ∙ c.if-is_none_or.true) in
+    record {
+      decides = ap (λ (o : Option Pick). least_at s b c.next.new.self.at o) new ∙ least_more s l.entry-iterator.at b c.next.new.self.at l.best e step ∙ l.invariant.decides;
+      stands = step.3;
+      walks = c.in-Some.ensures.steps.0 ∙ l.invariant.walks;
+    }
 
-pub returns-in-Fault : goal.returns-in-Fault
-returns-in-Fault c =
-    let a = c.args in
-    let s = a.s.now in
-    let l = c.loop-best in
-    (least_end s (bound_of s a.last) l.at l.best c.in-Fault.field-0 (sym c.string.ensures ∙ c.in-Fault.is) ∙ l.invariant.0, l.invariant.1)
+pub loop-entry-preserved : goal.loop-entry-preserved
+loop-entry-preserved c =
+    let s = c.args.s.now in
+    let l = c.loop-entry in
+    let e = c.in-Some.entry in
+    let b = bound_of s c.args.last in
+    let step = step_of l.entry-iterator.at c.next.new.self.at (Some e) l.invariant.walks c.in-Some.ensures.steps.1 in
+    let old : l.best ≡ preferred_at s b l.best e =
+    elim c.else-is_past.branch [
+      | else-is_past-via-then-is_past+else-is_none_or w ↦
+          let below = below_told s l.best e w.is_none_or.result (each_option l.best w.is_none_or.ensures (λ q. q) (λ o q. search rules)) in
+          preferred_old s b l.best e (sym w.if-is_past.ensures) (sym below ∙ w.if-is_none_or.false)
+      | else-is_past-via-else-is_past w ↦ preferred_written s b l.best e (sym w.if-is_past.ensures)
+    ] in
+    record {
+      decides = ap (λ (o : Option Pick). least_at s b c.next.new.self.at o) old ∙ least_more s l.entry-iterator.at b c.next.new.self.at l.best e step ∙ l.invariant.decides;
+      stands = l.invariant.stands;
+      walks = c.in-Some.ensures.steps.0 ∙ l.invariant.walks;
+    }
 
-pub preferred-best-requires : goal.preferred-best-requires
-preferred-best-requires c =
-    let a = c.args in
-    let s = a.s.now in
-    let l = c.loop-best in
-    let text = sym c.string.ensures ∙ c.in-Bytes.is in
-    let w = string_whole_inv s l.at c.in-Bytes.start c.in-Bytes.end text in
-    (omega (arith, w.starts, w.ordered), w.within, c.requires, l.invariant.1)
-
-pub loop-best-smaller : goal.loop-best-smaller
-loop-best-smaller c =
-    let a = c.args in
-    let s = a.s.now in
-    let l = c.loop-best in
-    let text = sym c.string.ensures ∙ c.in-Bytes.is in
-    let w = string_whole_inv s l.at c.in-Bytes.start c.in-Bytes.end text in
-    let r = skip_range s c.in-Bytes.end 0 w.within in
-    omega (arith, c.skip_value-at.ensures)
-
-pub loop-best-preserved : goal.loop-best-preserved
-loop-best-preserved c =
-    let a = c.args in
-    let s = a.s.now in
-    let l = c.loop-best in
-    let text = sym c.string.ensures ∙ c.in-Bytes.is in
-    let b = bound_of s a.last in
-    let w = string_whole_inv s l.at c.in-Bytes.start c.in-Bytes.end text in (
-      ap₂ (λ (j : ℕ) (x : Pick). least_at s b j x) c.skip_value-at.ensures c.preferred-best.ensures
-          ∙ least_more s b l.at l.best c.in-Bytes.start c.in-Bytes.end text ∙ l.invariant.0,
-      subst (λ (x : Pick). Inside s x) (sym c.preferred-best.ensures) (preferred_inside s b l.best l.at c.in-Bytes.start c.in-Bytes.end (omega (arith, w.starts, w.ordered, w.within), w.ordered, w.within) l.invariant.1),
-    )
+pub returns : goal.returns
+returns c =
+    let s = c.args.s.now in
+    let l = c.loop-entry in
+    (least_end s l.entry-iterator.at (bound_of s c.args.last) c.next.new.self.at l.best (step_of l.entry-iterator.at c.next.new.self.at None l.invariant.walks c.in-None.ensures.steps.1) ∙ l.invariant.decides, l.invariant.stands)

@@ -1,11 +1,10 @@
-use Prim.Native.Nat.{◌-◌}
 use mathlib.Core.Path.{◌≡◌}
-use lib.ListN.{length}
 use Rattle.canonical.specs.SortWalk.{nothing, bound_of, Inside, rises_at}
 use Rattle.canonical.proofs.select.rises.Given as goal
 
-abbrev pub invariant-loop-start : goal.invariant-loop-start
-invariant-loop-start l = (rises_at l.s l.at (bound_of l.s l.last) ≡ rises_at l.s l.from nothing) × Inside l.s l.last
-
-abbrev pub decreases-loop-start : goal.decreases-loop-start
-decreases-loop-start l = length l.s - l.at
+abbrev pub invariant-loop-entry : goal.invariant-loop-entry
+invariant-loop-entry l = record {
+  decides : rises_at l.s l.entry-iterator.at (bound_of l.s l.last) ≡ rises_at l.s l.from nothing;
+  stands : Inside l.s l.last;
+  walks : l.entry-iterator.s.now ≡ l.s;
+}

@@ -1,4 +1,4 @@
-use Prim.Native.Nat.{◌+◌, ◌*◌}
+use Prim.Native.Nat.{◌+◌, ◌*◌, ◌-◌}
 use mathlib.Core.Path.{◌≡◌}
 use lib.ListN.{length}
 use Rattle.canonical.specs.SortWalk.{nothing, bound_of, Inside, values_from, selected, sorted_at}
@@ -17,14 +17,14 @@ decreases-put_selected l = 4 * l.levels + 2
 abbrev pub decreases-put_value : goal.decreases-put_value
 decreases-put_value l = 4 * l.levels
 
-abbrev pub invariant-put_items-loop-left : goal.invariant-put_items-loop-left
-invariant-put_items-loop-left l = Left l.initial.out l.to (values_from (sorted_at l.levels l.s) l.s l.most l.from) l.out l.o (values_from (sorted_at l.levels l.s) l.s l.left l.at) × (l.at + l.to ≡ l.from + l.o)
+abbrev pub invariant-put_items-loop-turn : goal.invariant-put_items-loop-turn
+invariant-put_items-loop-turn l = record {
+  left : Left l.initial.out l.to (values_from (sorted_at l.levels l.s) l.s l.most l.from) l.out l.o (values_from (sorted_at l.levels l.s) l.s (l.most - l._turn) l.at);
+  as_far : l.at + l.to ≡ l.from + l.o;
+}
 
-abbrev pub decreases-put_items-loop-left : goal.decreases-put_items-loop-left
-decreases-put_items-loop-left l = l.left
-
-abbrev pub invariant-put_selected-loop-left : goal.invariant-put_selected-loop-left
-invariant-put_selected-loop-left l = Left l.initial.out l.to (selected (sorted_at l.levels l.s) l.s l.first (length l.s) nothing) l.out l.o (selected (sorted_at l.levels l.s) l.s l.first l.left (bound_of l.s l.last)) × Inside l.s l.last
-
-abbrev pub decreases-put_selected-loop-left : goal.decreases-put_selected-loop-left
-decreases-put_selected-loop-left l = l.left
+abbrev pub invariant-put_selected-loop-turn : goal.invariant-put_selected-loop-turn
+invariant-put_selected-loop-turn l = record {
+  left : Left l.initial.out l.to (selected (sorted_at l.levels l.s) l.s l.first (length l.s) nothing) l.out l.o (selected (sorted_at l.levels l.s) l.s l.first (length l.s - l._turn) (bound_of l.s l.last));
+  stands : Inside l.s l.last;
+}

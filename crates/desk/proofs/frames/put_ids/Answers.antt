@@ -8,7 +8,6 @@ use Rattle.octets.specs.Put.{Put}
 use Rattle.bencode.specs.Value.{encode_all}
 use Rattle.octets.proofs.writing.PutLaws.{Writing, start, room_next, next, next_put, finish}
 use Rattle.desk.specs.Watch.{pick_ids}
-use Rattle.desk.specs.Record.{watched}
 use Rattle.desk.specs.Command.{values, id_list}
 use Rattle.desk.proofs.writing.ListParts.{list_parts, list_parts_lem}
 use Rattle.desk.proofs.frames.put_ids.Goals as goal
@@ -19,9 +18,9 @@ started : (ids : List ℕ) {before after : List ℕ} {o : ℕ} → length (id_li
 started ids {before} room put_start = next_put (start before 0 (list_parts ids) (rw (list_parts_lem ids) (omega (arith, room)))) put_start
 
 pub put_items-o-requires : goal.put_items-o-requires
-put_items-o-requires c = (c.requires.0, room_next (started (pick_ids c.args.pick (watched c.args.d)) c.requires.1 c.put_bytes-o.ensures))
+put_items-o-requires c = room_next (started (pick_ids c.args.pick c.args.list.now) c.requires c.put_bytes-o.ensures)
 
 pub returns : goal.returns
 returns c =
-    let ids = pick_ids c.args.pick (watched c.args.d) in
-    rw (list_parts_lem ids) at (finish (next_put (next (started ids c.requires.1 c.put_bytes-o.ensures) c.put_items-o.ensures) c.put_bytes.ensures))
+    let ids = pick_ids c.args.pick c.args.list.now in
+    rw (list_parts_lem ids) at (finish (next_put (next (started ids c.requires c.put_bytes-o.ensures) c.put_items-o.ensures) c.put_bytes.ensures))

@@ -1,11 +1,13 @@
 -- `desk::limit::is_limit` meets its contract.
 -- Assumes nothing.
-use mathlib.Core.Path.{sym, ◌∙◌}
-use Rattle.desk.proofs.numbers.LimitLaws.{limit_some, limit_none}
+use Rattle.std.proofs.lemmas.Grind.{common_steps}
+use native.Mathlib.Omega.{arith}
+use mir.ValLaws.{to_z-of_z}
+use Rattle.desk.specs.Limit.{limit_of}
 use Rattle.desk.proofs.limit.is_limit.Goals as goal
 
-pub returns-in-Limit : goal.returns-in-Limit
-returns-in-Limit c = limit_some c.args.n c.ranges.n c.in-Limit.field-0 (sym c.new.ensures ∙ c.in-Limit.is)
-
-pub returns-in-None : goal.returns-in-None
-returns-in-None c = limit_none c.args.n c.ranges.n (sym c.new.ensures ∙ c.in-None.is)
+pub returns : goal.returns
+unfolding limit_of
+returns c =
+    let fits = c.ranges.n in
+    grind (arith, common_steps, to_z-of_z)

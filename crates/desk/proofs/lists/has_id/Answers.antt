@@ -1,10 +1,14 @@
 -- `desk::lists::has_id` meets its contract.
 -- Assumes nothing.
-use native.Mathlib.Omega.{arith}
-use lib.ListN.{take}
-use lib.Seq.{length-take-le}
-use Rattle.desk.proofs.watching.WatchLists.{has_place}
+use mathlib.Core.Path.{◌∙◌}
+use lib.Dec.{eqb}
+use Rattle.std.proofs.Common.{rules, tests}
+use Rattle.std.proofs.lemmas.Iterator.{YieldsList-from_slice}
+use Rattle.std.proofs.lemmas.Iterator.Search.{any_from_yields_List}
+use Rattle.desk.proofs.watching.Scans.{any_has}
 use Rattle.desk.proofs.lists.has_id.Goals as goal
 
 pub returns : goal.returns
-returns c = rw c.place_of.ensures (has_place c.args.id c.args.n (take c.args.n c.args.places) (length-take-le c.args.n c.args.places (omega (arith, c.requires, c.well_formed.0.1.0.1))))
+returns c =
+    any_from_yields_List (λ w. eqb w.id c.args.id) _ _ c.any.result c.any.ensures.ran (YieldsList-from_slice c.args.list.now cc) (λ x b q k. search (rules, tests))
+    ∙ any_has c.args.id c.args.list.now

@@ -1,19 +1,15 @@
--- `desk::lists::place_of` meets its contract. The invariant: the place is i on from the place among the records from i on.
+-- `desk::lists::place_of` meets its contract.
 -- Assumes nothing.
-use mathlib.Core.Path.{sym, ◌∙◌}
-use native.Mathlib.Nat.{zero-add}
-use native.Mathlib.Omega.{arith}
-use Rattle.desk.proofs.watching.Scans.{place_here, place_past, place_none}
+use mathlib.Core.Path.{ap, ◌∙◌}
+use lib.Dec.{eqb}
+use Rattle.std.proofs.Common.{rules, tests, length}
+use Rattle.std.specs.Prelude.{unwrap_or}
+use Rattle.std.proofs.lemmas.Iterator.{YieldsList-from_slice}
+use Rattle.std.proofs.lemmas.Iterator.Search.{position_from_yields_List}
+use Rattle.desk.proofs.watching.Scans.{first_place}
 use Rattle.desk.proofs.lists.place_of.Goals as goal
 
-pub loop-i-init : goal.loop-i-init
-loop-i-init c = (omega arith, sym (zero-add _))
-
-pub returns-then-places-i : goal.returns-then-places-i
-returns-then-places-i c = sym (c.loop-i.invariant.1 ∙ place_here c.args.places c.args.n c.loop-i.i (omega arith) (omega (arith, c.well_formed.0.1.0.1)) c.args.id c.if-places-i.true)
-
-pub loop-i-preserved : goal.loop-i-preserved
-loop-i-preserved c = (omega arith, c.loop-i.invariant.1 ∙ place_past c.args.places c.args.n c.loop-i.i (omega arith) (omega (arith, c.well_formed.0.1.0.1)) c.args.id c.if-places-i.false)
-
 pub returns : goal.returns
-returns c = sym (c.loop-i.invariant.1 ∙ place_none c.args.places c.args.n c.loop-i.i (omega arith) c.args.id)
+returns c =
+    let found = position_from_yields_List (λ w. eqb w.id c.args.id) _ _ c.position.result c.position.ensures.ran (YieldsList-from_slice c.args.list.now cc) (λ x b q k. search (rules, tests)) in
+    c.unwrap_or.ensures ∙ ap (λ o. unwrap_or o (length c.args.list.now)) found ∙ first_place c.args.id c.args.list.now

@@ -8,16 +8,16 @@ use Rattle.ipc.proofs.format.text_value.Goals as goal
 
 pub overflow_add-result : goal.overflow_add-result
 overflow_add-result c =
-    let w = string_whole_inv c.args.p.now c.args.at c.in-Bytes.start c.in-Bytes.end (sym c.string.ensures ∙ c.in-Bytes.is) in
+    let w = string_whole_inv c.args.p.now c.args.at c.in-Ok.text.start c.in-Ok.text.end (sym c.string.ensures ∙ c.in-Ok.is) in
     omega (arith, c.requires)
 
 pub overflow_sub-result : goal.overflow_sub-result
 overflow_sub-result c =
-    let w = string_whole_inv c.args.p.now c.args.at c.in-Bytes.start c.in-Bytes.end (sym c.string.ensures ∙ c.in-Bytes.is) in
+    let w = string_whole_inv c.args.p.now c.args.at c.in-Ok.text.start c.in-Ok.text.end (sym c.string.ensures ∙ c.in-Ok.is) in
     omega (arith, c.requires)
 
-pub returns-in-Bytes : goal.returns-in-Bytes
-returns-in-Bytes c = text_good c.args.p.now c.args.at c.in-Bytes.start c.in-Bytes.end (sym c.string.ensures ∙ c.in-Bytes.is)
+pub returns-in-Ok : goal.returns-in-Ok
+returns-in-Ok c = text_good c.args.p.now c.args.at c.in-Ok.text.start c.in-Ok.text.end (sym c.string.ensures ∙ c.in-Ok.is)
 
-pub returns-in-Fault : goal.returns-in-Fault
-returns-in-Fault c = text_off c.args.p.now c.args.at c.in-Fault.field-0 (sym c.string.ensures ∙ c.in-Fault.is)
+pub returns-in-Err : goal.returns-in-Err
+returns-in-Err c = text_off c.args.p.now c.args.at c.in-Err.field-0 (sym c.string.ensures ∙ c.in-Err.is)

@@ -2,18 +2,28 @@
 -- Assumes nothing.
 use mathlib.Core.Path.{sym, ◌∙◌}
 use Rattle.octets.specs.Ascii.{ascii}
-use Rattle.ipc.proofs.frames.HandshakeLaws.{range_no_min, range_no_max, range_integers}
-use borrow.Enum.Refused.{opened}
+use Rattle.bencode.proofs.lookup.FieldLaws.{field_fits}
+use Rattle.ipc.proofs.frames.HandshakeLaws.{range_missing_min, range_no_min, range_missing_max, range_no_max, range_integers}
 use Rattle.ipc.proofs.handshake.range_at.Goals as goal
 
-pub returns-in-Integer-field_of : goal.returns-in-Integer-field_of
+pub returns-in_err-field_of : goal.returns-in_err-field_of
 unfolding ascii
-returns-in-Integer-field_of c = c.new.ensures ∙ range_integers c.args.p.now c.args.from c.in-Integer.min c.in-Integer.end (sym c.field_of.ensures ∙ c.in-Integer.is) c.in-Integer-field_of.max c.in-Integer-field_of.end (sym c.field_of-in-Integer.ensures ∙ c.in-Integer-field_of.is) (record { sfits = c.in-Integer.known_told-1-own.given.0.1 }) (record { sfits = c.in-Integer-field_of.known_told-in-Integer-field_of-2-1-own.given.0.1 })
+returns-in_err-field_of c = c.from_residual.ensures ∙ sym (range_missing_min c.args.p.now c.args.from (sym c.field_of.ensures ∙ c.in_err-field_of.was))
 
-pub returns-in_default-field_of : goal.returns-in_default-field_of
+pub returns-in_err-min : goal.returns-in_err-min
 unfolding ascii
-returns-in_default-field_of c = range_no_max c.args.p.now c.args.from c.in-Integer.min c.in-Integer.end (sym c.field_of.ensures ∙ c.in-Integer.is) c.field_of-in-Integer.result c.field_of-in-Integer.ensures (opened c.in_default-field_of.in_default-field_of-own.keys2)
+returns-in_err-min c = c.from_residual-in_err-min.ensures ∙ sym (range_no_min c.args.p.now c.args.from c.in_ok-field_of.field-0 (sym c.field_of.ensures ∙ c.in_ok-field_of.was) (sym c.integer.ensures ∙ c.in_err-min.was))
 
-pub returns-in_default : goal.returns-in_default
+pub returns-in_err-field_of-2 : goal.returns-in_err-field_of-2
 unfolding ascii
-returns-in_default c = range_no_min c.args.p.now c.args.from c.field_of.result c.field_of.ensures (opened c.in_default.in_default-own.keys2)
+returns-in_err-field_of-2 c = c.from_residual-in_err-field_of-2.ensures ∙ sym (range_missing_max c.args.p.now c.args.from c.in_ok-field_of.field-0 (sym c.field_of.ensures ∙ c.in_ok-field_of.was) c.in_ok-min.min (sym c.integer.ensures ∙ c.in_ok-min.was) (sym c.field_of-2.ensures ∙ c.in_err-field_of-2.was))
+
+pub returns-in_err-max : goal.returns-in_err-max
+unfolding ascii
+returns-in_err-max c = c.from_residual-in_err-max.ensures ∙ sym (range_no_max c.args.p.now c.args.from c.in_ok-field_of.field-0 (sym c.field_of.ensures ∙ c.in_ok-field_of.was) c.in_ok-min.min (sym c.integer.ensures ∙ c.in_ok-min.was) c.in_ok-field_of-2.field-0 (sym c.field_of-2.ensures ∙ c.in_ok-field_of-2.was) (sym c.integer-2.ensures ∙ c.in_err-max.was))
+
+pub returns : goal.returns
+unfolding ascii
+returns c = c.new.ensures ∙ range_integers c.args.p.now c.args.from c.in_ok-field_of.field-0 (sym c.field_of.ensures ∙ c.in_ok-field_of.was) c.in_ok-min.min (sym c.integer.ensures ∙ c.in_ok-min.was) c.in_ok-field_of-2.field-0 (sym c.field_of-2.ensures ∙ c.in_ok-field_of-2.was) c.in_ok-max.max (sym c.integer-2.ensures ∙ c.in_ok-max.was)
+    (field_fits c.args.p.now (ascii "min") c.args.from c.in_ok-field_of.field-0 c.in_ok-min.min (sym c.field_of.ensures ∙ c.in_ok-field_of.was) (sym c.integer.ensures ∙ c.in_ok-min.was))
+    (field_fits c.args.p.now (ascii "max") c.args.from c.in_ok-field_of-2.field-0 c.in_ok-max.max (sym c.field_of-2.ensures ∙ c.in_ok-field_of-2.was) (sym c.integer-2.ensures ∙ c.in_ok-max.was))

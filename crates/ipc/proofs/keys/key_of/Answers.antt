@@ -3,24 +3,17 @@
 use mathlib.Core.Bool.{true, false}
 use Rattle.octets.specs.Bytes.{same}
 use Rattle.ipc.specs.Keys.{name_at, listed, key_number, class_of}
-use Rattle.ipc.proofs.listed.KeyLaws.{table_same, table_other, table_class, class_none, row_right, table_fits, table_count, number_here, number_next, number_none, number_all}
+use Rattle.ipc.proofs.listed.KeyLaws.{table_same, table_other, table_class, class_none, row_right, number_here, number_next, number_none, number_all}
 use native.Mathlib.Numerals.{add-one}
 use native.Mathlib.Omega.{arith}
 use Rattle.octets.specs.Ascii.{ascii}
 use Prim.Native.Nat.{suc}
 use mathlib.Core.Path.{◌≡◌, sym, ap, ◌∙◌}
+use Rattle.ipc.proofs.keys.key_of.Goals.{else-row-text-via-then-row-text+else-same, else-row-text-via-else-row-text}
 use Rattle.ipc.proofs.keys.key_of.Goals as goal
 
 pub loop-k-init : goal.loop-k-init
 loop-k-init c = (omega arith, number_all c.args.text.now)
-
-pub slice_bounds-name-end : goal.slice_bounds-name-end
-unfolding listed ascii
-slice_bounds-name-end c = table_fits c.loop-k.k _ (row_right _ c.loop-k.k (omega arith))
-
-pub slice_bounds-same-end : goal.slice_bounds-same-end
-unfolding listed ascii
-slice_bounds-same-end c = table_count c.loop-k.k _ (row_right _ c.loop-k.k (omega arith))
 
 pub returns-then-same : goal.returns-then-same
 unfolding listed ascii
@@ -32,20 +25,16 @@ returns-then-same c =
     let number : suc l.k ≡ key_number text = number_here text l.k (omega arith) here ∙ l.invariant.1 in
     (rw (add-one l.k) number, table_class l.k _ r ∙ ap class_of number)
 
-pub loop-k-preserved-else-same : goal.loop-k-preserved-else-same
-unfolding listed ascii
-loop-k-preserved-else-same c =
-    let text = c.args.text.now in
-    let l = c.loop-k in
-    let other : same (name_at l.k) text ≡ false = table_same l.k _ (row_right _ l.k (omega arith)) text false (sym c.same.ensures ∙ c.if-same.false) in
-    (omega arith, rw (add-one l.k) (number_next text l.k (omega arith) other ∙ l.invariant.1))
-
 pub loop-k-preserved : goal.loop-k-preserved
 unfolding listed ascii
 loop-k-preserved c =
     let text = c.args.text.now in
     let l = c.loop-k in
-    let other : same (name_at l.k) text ≡ false = table_other l.k _ (row_right _ l.k (omega arith)) text c.if-n-text.false in
+    let r = row_right _ l.k (omega arith) in
+    let other : same (name_at l.k) text ≡ false = elim c.else-row-text.branch [
+      | else-row-text-via-then-row-text+else-same w ↦ table_same l.k _ r text false (sym w.same.ensures ∙ w.if-same.false)
+      | else-row-text-via-else-row-text w ↦ table_other l.k _ r text w.if-row-text.false
+    ] in
     (omega arith, rw (add-one l.k) (number_next text l.k (omega arith) other ∙ l.invariant.1))
 
 pub returns : goal.returns

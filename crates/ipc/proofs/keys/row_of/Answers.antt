@@ -1,17 +1,19 @@
 -- `ipc::keys::row_of` meets its contract.
 -- Assumes nothing.
-use mathlib.Core.Path.{◌∙◌}
+use mathlib.Core.Path.{ap, ◌∙◌}
+use native.Mathlib.Omega.{arith}
 use Rattle.octets.specs.Ascii.{ascii}
+use Rattle.ipc.specs.Keys.{row_at}
 use Rattle.ipc.proofs.listed.KeyLaws.{row_none, row_past, row_here}
 use Rattle.ipc.proofs.keys.row_of.Goals as goal
 
-pub returns-then-number-eq0 : goal.returns-then-number-eq0
-unfolding ascii
-returns-then-number-eq0 c = row_none c.args.number c.if-number-eq0.true
+pub returns-in-Some : goal.returns-in-Some
+returns-in-Some c = c.row_at.ensures ∙ ap row_at c.in-Some.ensures.1 ∙ row_here c.args.number (λ e. omega (arith, c.in-Some.ensures.0, e))
 
-pub returns-then-k-ge-LISTED : goal.returns-then-k-ge-LISTED
+pub returns-in_default : goal.returns-in_default
 unfolding ascii
-returns-then-k-ge-LISTED c = row_past c.args.number c.if-number-eq0.false c.if-k-ge-LISTED.true
+returns-in_default c = row_past c.args.number (λ e. omega (arith, c.in-Some.ensures.0, e)) (omega (arith, c.in-Some.ensures.1, c.if-k-lt-LISTED.false))
 
-pub returns : goal.returns
-returns c = c.row_at.ensures ∙ row_here c.args.number c.if-number-eq0.false
+pub returns-in_default-2 : goal.returns-in_default-2
+unfolding ascii
+returns-in_default-2 c = row_none c.args.number (omega (arith, c.in_default.ensures))

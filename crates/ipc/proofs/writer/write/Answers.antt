@@ -4,28 +4,29 @@ use Prim.Native.Nat.{ℕ, ◌+◌, ◌≤◌, ◌<◌, min}
 use mathlib.Core.List.{List}
 use mathlib.Core.Path.{◌≡◌, refl, subst}
 use native.Mathlib.Omega.{arith}
-use borrow.Author.Tests.{eq-eqb, ne_eqb}
 use lib.ListN.{length}
+use Rattle.std.proofs.lemmas.Result.{err_from_is_err_and}
 use Rattle.bencode.specs.Value.{encode_string}
+use Rattle.ipc.specs.declared.writer.WriteRefusal.{WriteRefusal}
 use Rattle.ipc.specs.declared.keys.Class.{Class}
 use Rattle.ipc.specs.declared.writer.Given.{Given}
-use Rattle.ipc.specs.declared.writer.Written.{Written}
 use Rattle.ipc.specs.Header.{largest_payload}
 use Rattle.ipc.specs.Keys.{key_text, class_of}
 use Rattle.ipc.specs.Writer.{encode_given, encode_tag, payload_of, fitted, message_fault, write_answer}
 use Rattle.ipc.proofs.writing.WriterLaws.{payload_length, frame_length, leaves_refused, leaves_same, leaves_count, SizeOf, length_refused, length_small, length_room}
-use Rattle.ipc.proofs.writer.write.Goals.{Else-code-ne0, After-tag_length}
+use Rattle.ipc.proofs.writer.write.Goals.{After-tag_length}
 use Rattle.ipc.proofs.writer.write.Goals as goal
+use Rattle.std.specs.Prelude.{Err, Result, Ok}
 
 -- ---- the first refusal, whatever the length
-module _ (key : ℕ) (given : Given) (s : List ℕ) (tag room code : ℕ) (e : code ≡ message_fault key given s tag) where
-  refused : (code ≡ 0 → ⊥) → write_answer key given s tag room ≡ Written.Refused code
+module _ (key : ℕ) (given : Given) (s : List ℕ) (tag room : ℕ) (r : Result (Unit {0}) WriteRefusal) (e : r ≡ message_fault key given s tag) where
+  refused : (w : WriteRefusal) → r ≡ Err w → write_answer key given s tag room ≡ Err w
   unfolding write_answer
-  refused h = rw (← e, ne_eqb code 0 h) refl
+  refused w h = rw (← e, h) refl
 
-  passed : code ≡ 0 → write_answer key given s tag room ≡ fitted (payload_of key given s tag) room
+  passed : r ≡ Ok tt → write_answer key given s tag room ≡ fitted (payload_of key given s tag) room
   unfolding write_answer
-  passed h = rw (← e, eq-eqb code 0 h) refl
+  passed h = rw (← e, h) refl
 
 -- ---- the length of a payload
 -- the sum of the parts' lengths, the value's cut one over the largest payload
@@ -52,17 +53,18 @@ sized_at c =
 bound : (c : After-tag_length) → c.key_length.result + c.value_length.result + c.tag_length.result + 2 < 100000
 bound c = omega (arith, c.key_length.ensures.1, c.value_length.ensures, c.tag_length.ensures.1)
 
-answer_is : (c : Else-code-ne0) →
+answer_is : (c : After-tag_length) →
     let a = c.args in
     write_answer a.key a.given a.s.now a.tag (length a.out.now) ≡ fitted (payload_of a.key a.given a.s.now a.tag) (length a.out.now)
 answer_is c =
     let a = c.args in
-    passed a.key a.given a.s.now a.tag (length a.out.now) c.message_fault-code.result c.message_fault-code.ensures c.if-code-ne0.false
+    passed a.key a.given a.s.now a.tag (length a.out.now) c.message_fault.result c.message_fault.ensures c.in_ok-message_fault.was
 
-pub returns-then-code-ne0 : goal.returns-then-code-ne0
-returns-then-code-ne0 c =
+pub returns-in_err-message_fault : goal.returns-in_err-message_fault
+returns-in_err-message_fault c =
     let a = c.args in
-    leaves_refused _ _ _ _ (refused a.key a.given a.s.now a.tag (length a.out.now) c.message_fault-code.result c.message_fault-code.ensures c.if-code-ne0.true)
+    let e = err_from_is_err_and c.from_residual.result c.from_residual.ensures.1 in
+    rw (e.1, e.2) (leaves_refused _ _ _ _ (refused a.key a.given a.s.now a.tag (length a.out.now) c.message_fault.result c.message_fault.ensures c.in_err-message_fault.field-0.0 c.in_err-message_fault.was))
 
 pub overflow_add-size : goal.overflow_add-size
 overflow_add-size c = record { fits = omega (arith, c.value_length.ensures, c.key_length.ensures.1) }
@@ -76,25 +78,27 @@ overflow_add-size-3 c = record { fits = omega (arith, bound c) }
 pub overflow_cast-size : goal.overflow_cast-size
 overflow_cast-size c = record { fits = omega (arith, bound c) }
 
-pub returns-then-code-ne0-2 : goal.returns-then-code-ne0-2
-returns-then-code-ne0-2 c =
-    leaves_same (answer_is (goal.at.returns-then-code-ne0-2 c).Else-code-ne0)
-    (length_refused _ _ _ c.length_fault-code.result (sized_at (goal.at.returns-then-code-ne0-2 c).After-tag_length) c.length_fault-code.ensures c.if-code-ne0-2.true)
+pub returns-in_err-length_fault : goal.returns-in_err-length_fault
+returns-in_err-length_fault c =
+    let at = (goal.at.returns-in_err-length_fault c).After-tag_length in
+    let e = err_from_is_err_and c.from_residual-in_err-length_fault.result c.from_residual-in_err-length_fault.ensures.1 in
+    rw (e.1, e.2) (leaves_same (answer_is at) (length_refused _ _ _ (sized_at at) c.length_fault.result c.length_fault.ensures c.in_err-length_fault.field-0.0 c.in_err-length_fault.was))
 
 pub put_message-requires : goal.put_message-requires
 put_message-requires c =
     let a = c.args in
     let p = payload_of a.key a.given a.s.now a.tag in
     let z = sized_at (goal.at.put_message-requires c).After-tag_length in
-    let small = length_small p a.out.now _ c.length_fault-code.result z c.length_fault-code.ensures c.if-code-ne0-2.false in
-    let room = length_room p a.out.now _ c.length_fault-code.result z c.length_fault-code.ensures c.if-code-ne0-2.false in
+    let small = length_small p a.out.now _ z c.length_fault.result c.length_fault.ensures c.in_ok-length_fault.was in
+    let room = length_room p a.out.now _ z c.length_fault.result c.length_fault.ensures c.in_ok-length_fault.was in
     (z.is small, omega (arith, z.is small, room, frame_length p))
 
 pub returns : goal.returns
 returns c =
     let a = c.args in
     let p = payload_of a.key a.given a.s.now a.tag in
-    let z = sized_at (goal.at.returns c).After-tag_length in
-    let small = length_small p a.out.now _ c.length_fault-code.result z c.length_fault-code.ensures c.if-code-ne0-2.false in
-    let room = length_room p a.out.now _ c.length_fault-code.result z c.length_fault-code.ensures c.if-code-ne0-2.false in
-    leaves_same (answer_is (goal.at.returns c).Else-code-ne0) (leaves_count _ _ (omega (arith, small, z.is small)) (omega (arith, room, z.is small)) c.put_message.ensures)
+    let at = (goal.at.returns c).After-tag_length in
+    let z = sized_at at in
+    let small = length_small p a.out.now _ z c.length_fault.result c.length_fault.ensures c.in_ok-length_fault.was in
+    let room = length_room p a.out.now _ z c.length_fault.result c.length_fault.ensures c.in_ok-length_fault.was in
+    leaves_same (answer_is at) (leaves_count _ _ (omega (arith, small, z.is small)) (omega (arith, room, z.is small)) c.put_message.ensures)

@@ -1,17 +1,12 @@
-use native.Mathlib.Omega.{arith}
-use Rattle.octets.proofs.digits.DigitLaws.{length_above, length_below, length_pos}
+use Rattle.std.proofs.Common.{◌∙◌, arith, ◌≤◌, ◌<◌, rules, tests}
+use Rattle.std.proofs.lemmas.Iterator.{IsFirst-from_position, YieldsList-from_slice}
+use Rattle.octets.specs.declared.decimal.TheConstants.{TENS}
+use Rattle.octets.proofs.digits.TensLaws.{length_first}
 use Rattle.octets.proofs.decimal.decimal_length.Goals as goal
 
-pub loop-k-init : goal.loop-k-init
-loop-k-init c = omega (arith, length_pos c.args.n)
-
-pub returns-then-n-ten_to : goal.returns-then-n-ten_to
-returns-then-n-ten_to c =
-    omega (arith, length_below c.loop-k.k c.args.n (omega arith) (omega arith))
-
-pub loop-k-preserved : goal.loop-k-preserved
-loop-k-preserved c =
-    omega (arith, length_above c.loop-k.k c.args.n (omega arith))
-
 pub returns : goal.returns
-returns c = omega (arith, length_below 20 c.args.n (omega arith) (omega arith))
+returns c =
+    let n = c.args.n in
+    let first = IsFirst-from_position _ _ c.position.result (λ p. n < p) (λ p. p ≤ n) c.position.ensures.ran (YieldsList-from_slice TENS cc) (λ x q k. search (rules, tests)) (λ x q k. search (rules, tests)) in
+    let counted = length_first n c.position.result (omega arith) first in
+    (c.max.ensures ∙ rw c.unwrap_or.ensures counted.0, rw (c.max.ensures, c.unwrap_or.ensures) counted.1)

@@ -1,13 +1,24 @@
 -- `desk::limit::Limit::new` meets its contract.
 -- Assumes nothing.
-use Rattle.desk.proofs.numbers.LimitLaws.{limit_low, limit_high, limit_within}
+use Rattle.std.proofs.lemmas.Grind.{common_steps}
+use Rattle.std.proofs.lemmas.Int.{ints}
+use native.Mathlib.Omega.{arith}
+use mir.ValLaws.{to_z-of_z}
+use Rattle.desk.specs.Limit.{is_limit, limit_of}
 use Rattle.desk.proofs.limit.Limit.new.Goals as goal
+use Rattle.desk.proofs.limit.Limit.new.Goals.{then-n-lt-UNLIMITED-via-then-n-lt-UNLIMITED, then-n-lt-UNLIMITED-via-else-n-lt-UNLIMITED+then-n-gt-LARGEST}
 
 pub returns-then-n-lt-UNLIMITED : goal.returns-then-n-lt-UNLIMITED
-returns-then-n-lt-UNLIMITED c = limit_low c.args.n c.ranges.n c.if-n-lt-UNLIMITED.true
-
-pub returns-then-n-gt-LARGEST : goal.returns-then-n-gt-LARGEST
-returns-then-n-gt-LARGEST c = limit_high c.args.n c.ranges.n c.if-n-gt-LARGEST.true
+unfolding limit_of is_limit
+returns-then-n-lt-UNLIMITED c =
+    let fits = c.ranges.n in
+    elim c.then-n-lt-UNLIMITED.branch [
+      | then-n-lt-UNLIMITED-via-then-n-lt-UNLIMITED w ↦ grind (arith, ints, common_steps, to_z-of_z)
+      | then-n-lt-UNLIMITED-via-else-n-lt-UNLIMITED+then-n-gt-LARGEST w ↦ grind (arith, ints, common_steps, to_z-of_z)
+    ]
 
 pub returns : goal.returns
-returns c = limit_within c.args.n c.ranges.n c.if-n-lt-UNLIMITED.false c.if-n-gt-LARGEST.false
+unfolding limit_of is_limit
+returns c =
+    let fits = c.ranges.n in
+    grind (arith, ints, common_steps, to_z-of_z)

@@ -1,0 +1,11 @@
+use Prim.Native.Nat.{◌-◌, ◌^◌}
+use mathlib.Core.Logic.{◌⊎◌}
+use Rattle.std.specs.Prelude.{Some}
+use Rattle.bencode.specs.Runs.{Run}
+use Rattle.bencode.proofs.runs.all_items.Given as goal
+
+abbrev pub invariant-loop-end : goal.invariant-loop-end
+invariant-loop-end g l = goal.P-IsAlwaysCallable g l.pass × goal.F-IsAlwaysCallable g l.after × Run (λ at end. goal.P-post g l.pass at end ⊎ goal.F-post g l.after at (Some end)) l.from l.at
+
+abbrev pub decreases-loop-end : goal.decreases-loop-end
+decreases-loop-end g l = 2 ^ 64 - l.at
