@@ -162,7 +162,7 @@ struct bogsilver_walk_answer bogsilver_walk(const uint8_t *bytes, size_t length,
 
 /*
  * Walks as bogsilver_walk, by one loop: the same answer on every input. No function in it calls itself, even through others,
- * and as built here for x86-64-v2 it needs at most 1,232 bytes of stack, whatever the payload. For callers with little stack.
+ * and as built here for x86-64-v2 it needs at most 1,224 bytes of stack, whatever the payload. For callers with little stack.
  */
 struct bogsilver_walk_answer bogsilver_walk_flat(const uint8_t *bytes, size_t length, bool strict);
 

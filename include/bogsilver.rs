@@ -207,7 +207,7 @@ pub fn walk(payload: &[u8], strict: bool) -> WalkAnswer {
 }
 
 /// The same walk by one loop: the answer of `walk` on every payload, no function that calls itself, and as built here
-/// for x86-64-v2 at most 1,232 bytes of stack.
+/// for x86-64-v2 at most 1,224 bytes of stack.
 pub fn walk_flat(payload: &[u8], strict: bool) -> WalkAnswer {
     // SAFETY: the pointer and the length are those of one slice.
     unsafe { bogsilver_walk_flat(payload.as_ptr(), payload.len(), strict) }

@@ -1,5 +1,5 @@
--- Pinned by `ShowsValue` and `FindsField`, `if_integer` by ipc's `AnswersMeaning`. The value of a key in a dictionary that has
--- been walked, by its kind and with its place.
+-- Pinned by `ShowsValue` and `FindsField`, `if_integer` by ipc's `AnswersMeaning`; `integer_in` is to be believed. The value of
+-- a key in a dictionary that has been walked, by its kind and with its place.
 -- Assumes nothing.
 use Rattle.std.specs.Prelude.{ℕ, ◌+◌, cond, List, eqb, ℤ, Result, Ok, Err, Option, Some, None}
 use Rattle.bencode.specs.declared.field.Field.{Field}

@@ -1,4 +1,4 @@
--- `noted_of` and `noted_at` are to be believed; the rest is pinned by the promises of `dictionary` and `value`, and nothing public
+-- `noted_of` and `noted_at` are to be believed; `found_after` is pinned by the promise of `dictionary`, and nothing public
 -- cites it. A dictionary walked, and the value of a key noted on the way.
 -- Assumes nothing.
 use Rattle.std.specs.Prelude.{ℕ, Bool, cond, List, Ok, Err, Option, Some, None, Result}

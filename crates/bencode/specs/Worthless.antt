@@ -51,7 +51,7 @@ list_marked before after = record { row = after.row; depth = after.depth; level 
 abbrev pub DictionaryAsListFalls : Type 0
 DictionaryAsListFalls = SamePayloadFor (altered list_marked) → ⊥
 
--- a level that closes stays the innermost, with its keys
+-- a level that closes stays the innermost, with its bracket and its keys
 abbrev pub level_left : Levels → Levels → Levels
 level_left before after = cond (ltb after.depth before.depth) (record { row = after.row; depth = after.depth; level = before.level; valued = after.valued }) after
 

@@ -3,6 +3,7 @@ ghost use Rattle.std.specs.Prelude.{◌≡◌};
 ghost use Rattle.bencode.specs.Depth.{nested};
 
 // In how many lists and dictionaries a value stands, at most LARGEST.
+// Stays: a ghost field for that would put a proof into the definition `nested`, which makes a Depth.
 #[derive(Clone, Copy)]
 pub struct Depth(u8);
 

@@ -1,17 +1,17 @@
 // Digits counted by the table of classes.
-ghost use Rattle.std.specs.Prelude.{◌≡◌, true, ◌+◌, ◌≤◌, length};
-ghost use Rattle.bencode.specs.Classes.{is_table, DigitsTo};
+ghost use Rattle.std.specs.Prelude.{◌+◌, ◌≤◌, length};
+ghost use Rattle.bencode.specs.Classes.{DigitsTo};
 
-use super::classes::class_of;
+use super::classes::Classes;
 
 // The offset after the digits from an offset on, or after MOST of them: no test whether the bytes end.
-pub fn digits_end<const MOST: usize>(s: &[u8], from: usize, classes: &[u8; 256]) -> usize
-    requires { (from + MOST ≤ length s.now) × (is_table classes.now ≡ true) }
+pub fn digits_end<const MOST: usize>(s: &[u8], from: usize, classes: &Classes) -> usize
+    requires { from + MOST ≤ length s.now }
     ensures { DigitsTo s.now from MOST result }
 {
-    // Stays: (c) `position` over the part took 1.19 of the older loop's instructions for a list of IDs, this one 1.04.
+    // Stays: `position` over the part took 1.19 of the older loop's instructions for a list of IDs, this one 1.04.
     for k in 0..MOST {
-        if class_of(classes, s[from + k]) != b'0' {
+        if classes.of(s[from + k]) != b'0' {
             return from + k;
         }
     }

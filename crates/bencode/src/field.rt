@@ -31,6 +31,7 @@ impl Field {
     }
 }
 
+// Stays beside `text_field`: two lines each, over two readers and two kinds.
 #[tactic(auto, using(crate::proofs::lookup::FieldLaws::field_number))]
 fn integer_field(s: &[u8], at: usize) -> Option<Field>
     ensures { result ≡ number_field (integer_at s.now at) }

@@ -1,12 +1,12 @@
 // The walk of a payload by one loop, in which no function calls itself, even through others (document 02, request 09): for the
-// levels around the innermost there is a row of marks and places. It answers what `walk::payload` answers.
+// levels around the innermost there is a row of levels. It answers what `walk::payload` answers.
 ghost use Rattle.std.specs.Prelude.{◌≡◌};
 ghost use Rattle.bencode.specs.Depth.{largest_depth};
 ghost use Rattle.bencode.specs.Fault.{code_of, offset_of};
 ghost use Rattle.bencode.specs.Flat.{opened};
 ghost use Rattle.bencode.specs.Walk.{value_at, payload_at, payload_code, payload_offset};
 
-use super::classes::classes;
+use super::classes::Classes;
 use super::fault::Fault;
 use super::key::Seen;
 use super::profile::Profile;
@@ -25,31 +25,28 @@ fn opened(bracket: Bracket, first: usize) -> Level
 
 // What the value that a payload starts with comes to. Each turn takes one token. The row has the levels around the innermost one,
 // as many as the depth; valued says that a value has to stand next.
+// Stays: a loop, since each token decides the levels under which the next is taken.
 fn first_value(s: &[u8], profile: Profile) -> Result<usize, Fault>
     ensures { result ≡ value_at profile largest_depth s.now 0 }
 {
-    let table = classes();
+    let classes = Classes::new();
     let mut level = opened(Bracket::List, 0);
     let mut row = [level; LEVELS];
     let mut depth: usize = 0;
     let mut at: usize = 0;
     let mut valued = true;
     loop {
-        let token = token_at(s, at, depth, level, valued, profile, &table)?;
+        let token = token_at(s, at, depth, level, valued, profile, &classes)?;
         match token {
-            Token::Done(end) => {
-                return Ok(end);
-            }
+            Token::Done(end) => return Ok(end),
             Token::Close => {
                 depth -= 1;
                 level = row[depth];
                 at += 1;
             }
             Token::Key { seen, end } => {
-                level = Level {
-                    bracket: Bracket::Dictionary,
-                    seen,
-                };
+                let bracket = Bracket::Dictionary;
+                level = Level { bracket, seen };
                 at = end;
                 valued = true;
             }

@@ -29,6 +29,7 @@ fn negated(n: u64) -> i64
 }
 
 // The integer of a sign and a number, whose `i` is at `at`, where it is in the range.
+// Stays: the sign stands apart, since an i64 of both would be in the range already.
 fn in_range(at: usize, negative: bool, number: u64, end: usize) -> Result<Number, Fault>
     ensures { result ≡ in_range at (signed negative number) end }
 {
@@ -101,6 +102,7 @@ pub fn integer(s: &[u8], at: usize) -> Result<Number, Fault>
 }
 
 // The offset after the integer at an offset.
+// Stays beside `string_end`: one line each, over two readers.
 pub fn integer_end(s: &[u8], at: usize) -> Result<usize, Fault>
     ensures { result ≡ number_end (integer_at s.now at) }
 {

@@ -1,5 +1,5 @@
 // The key rule for keys that are text: which may follow which in a dictionary. A key above all earlier ones costs one comparison.
-ghost use Rattle.std.specs.Prelude.{◌≡◌, ◌≤◌, ◌<◌, length};
+ghost use Rattle.std.specs.Prelude.{◌≡◌, ◌<◌};
 ghost use Rattle.octets.specs.Bytes.{slice};
 ghost use Rattle.bencode.specs.Marks.{place_of};
 ghost use Rattle.bencode.specs.KeySearch.{none_seen, Inside, Sound, used_at, repeated_at, above_at, key_at};

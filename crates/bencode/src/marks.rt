@@ -6,6 +6,7 @@ ghost use Rattle.bencode.specs.Marks.{place_of, is_marked, with_mark};
 use octets::byte_at;
 
 // The last byte of a key, and 0 for the empty one.
+// Stays: 0, as for an offset past the end, since the mark of a key is a sum over bytes.
 fn last(key: &[u8]) -> u8
     ensures { result ≡ byte_at key.now (length key.now - 1) }
 {

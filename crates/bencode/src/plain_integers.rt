@@ -1,9 +1,9 @@
 // Integers with no sign and of few digits, as most are. Each function here is called at one place only, so that it is inlined there.
 ghost use Rattle.std.specs.Prelude.{◌≡◌, true, ◌+◌, ◌≤◌, ◌<◌, length, IfSome, Ok};
 ghost use Rattle.octets.specs.Bytes.{byte_at};
-ghost use Rattle.bencode.specs.Classes.{is_table};
 ghost use Rattle.bencode.specs.Integers.{integer_at, number_end};
 
+use super::classes::Classes;
 use super::digits::digits_end;
 use octets::byte_at;
 
@@ -22,8 +22,7 @@ fn is_short(s: &[u8], from: usize, end: usize) -> bool
 }
 
 // The offset after the integer at an offset, if it has no sign; none says nothing.
-pub fn plain_end(s: &[u8], at: usize, classes: &[u8; 256]) -> Option<usize>
-    requires { is_table classes.now ≡ true }
+pub fn plain_end(s: &[u8], at: usize, classes: &Classes) -> Option<usize>
     ensures { IfSome result (λ end. number_end (integer_at s.now at) ≡ Ok end) }
 {
     if byte_at(s, at) != b'i' || s.len() - at < ROOM {

@@ -30,6 +30,7 @@ pub fn plain_at(s: &[u8], at: usize) -> bool
 
 // Says yes only where the key from start up to end is ASCII text: it looks at whole words from the start on, also past the end,
 // and where one has another byte, or the bytes end, it says no.
+// Stays: a loop over offsets, since it reads words past the key, where `chunks` of the key would end.
 pub fn is_plain(s: &[u8], start: usize, end: usize) -> bool
     requires { (start ≤ end) × (end ≤ length s.now) }
     ensures { result ≡ true → is_text (slice s.now start end) ≡ true }

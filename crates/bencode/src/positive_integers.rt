@@ -1,10 +1,10 @@
 // Integers from 1 to a bound.
-ghost use Rattle.std.specs.Prelude.{◌≡◌, true, ◌+◌, ◌≤◌, length, Some, IfSome};
+ghost use Rattle.std.specs.Prelude.{◌≡◌, ◌+◌, ◌≤◌, length, Some, IfSome};
 ghost use Rattle.octets.specs.Bytes.{byte_at};
 ghost use Rattle.octets.specs.Numerals.{digits_at};
-ghost use Rattle.bencode.specs.Classes.{is_table};
 ghost use Rattle.bencode.specs.Integers.{BoundedDigits, integer_at, after_positive};
 
+use super::classes::Classes;
 use super::digits::digits_end;
 use super::integers::integer;
 use octets::byte_at;
@@ -30,8 +30,8 @@ pub struct Bounded {
 
 // The digits from an offset on, or TEN of them: no test whether the bytes end. What is above TEN is told by the first two, with
 // one more for the others; each of the two is 48 too large as a byte.
-fn ten_digits(s: &[u8], from: usize, classes: &[u8; 256]) -> Bounded
-    requires { (from + 10 ≤ length s.now) × (is_table classes.now ≡ true) }
+fn ten_digits(s: &[u8], from: usize, classes: &Classes) -> Bounded
+    requires { from + 10 ≤ length s.now }
     ensures { (from ≤ result.end) × (result.end ≤ from + 10) × (byte_at s.now result.end ≡ 101 → BoundedDigits s.now from result.end result.above (digits_at s.now from)) }
 {
     let end = digits_end::<TEN>(s, from, classes);
@@ -48,9 +48,8 @@ fn ten_digits(s: &[u8], from: usize, classes: &[u8; 256]) -> Bounded
 }
 
 // The offset after the integer at an offset that is from 1 to another, if it has few digits; none says nothing.
-// Stays: (e) it has only its first test in common with `plain_end`, which takes 0 and asks no bound.
-pub fn plain_positive(s: &[u8], at: usize, high: u64, classes: &[u8; 256]) -> Option<usize>
-    requires { is_table classes.now ≡ true }
+// Stays beside `plain_end`: of the digits that asks where they end, this a number above them.
+pub fn plain_positive(s: &[u8], at: usize, high: u64, classes: &Classes) -> Option<usize>
     ensures { IfSome result (λ end. after_positive high (integer_at s.now at) ≡ Some end) }
 {
     if byte_at(s, at) != b'i' || s.len() - at < ROOM {

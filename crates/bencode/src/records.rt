@@ -4,7 +4,7 @@ ghost use Rattle.octets.specs.Bytes.{slice, same};
 ghost use Rattle.bencode.specs.KeySearch.{Inside};
 ghost use Rattle.bencode.specs.Record.{found_after, noted_at};
 
-use super::classes::classes;
+use super::classes::Classes;
 use super::depth::Depth;
 use super::fault::Fault;
 use super::profile::Profile;
@@ -35,6 +35,6 @@ pub fn found_after(found: Option<usize>, s: &[u8], name: Text, key: &[u8]) -> Op
 pub fn record(s: &[u8], from: usize, key: &[u8], profile: Profile) -> Result<Noted, Fault>
     ensures { result ≡ noted_at profile s.now key.now from }
 {
-    let table = classes();
-    dictionary(s, from, key, Depth::in_record(), profile, &table)
+    let classes = Classes::new();
+    dictionary(s, from, key, Depth::in_record(), profile, &classes)
 }

@@ -1,9 +1,9 @@
 // Values that hold no other: strings and integers.
-ghost use Rattle.std.specs.Prelude.{◌≡◌, true, IfSome, Ok};
-ghost use Rattle.bencode.specs.Classes.{is_table};
+ghost use Rattle.std.specs.Prelude.{◌≡◌, IfSome, Ok};
 ghost use Rattle.bencode.specs.Fault.{after_of};
 ghost use Rattle.bencode.specs.Scalar.{scalar_at};
 
+use super::classes::Classes;
 use super::fault::Fault;
 use super::integers::{after_integer, integer_end};
 use super::plain_integers::plain_end;
@@ -36,8 +36,7 @@ pub fn after_scalar(s: &[u8], at: usize) -> Option<usize>
 
 // The offset after the string or the integer at an offset, if it is short; none says nothing. It is called at one place only, so
 // that it is inlined there.
-pub fn quick_scalar(s: &[u8], at: usize, classes: &[u8; 256]) -> Option<usize>
-    requires { is_table classes.now ≡ true }
+pub fn quick_scalar(s: &[u8], at: usize, classes: &Classes) -> Option<usize>
     ensures { IfSome result (λ end. scalar_at s.now at ≡ Ok end) }
 {
     if byte_at(s, at) == b'i' {

@@ -17,7 +17,7 @@ fn skip_from(s: &[u8], from: usize, levels: usize) -> usize
     requires { levels ≤ 1 }
     ensures { result ≡ skip_from s.now from levels }
 {
-    // Stays: (e) the offset moves by items of any length, which no iterator of the library gives.
+    // Stays: the offset moves by items of any length, which no iterator of the library gives.
     let mut at = from;
     let mut depth: usize = levels;
     loop {

@@ -20,6 +20,7 @@ fn following(b: u8) -> u8
 }
 
 // The least second byte after a first one.
+// Stays beside `highest`: two tables of RFC 3629, which have no row in common.
 fn lowest(b: u8) -> u8
     ensures { result ≡ lowest b }
 {
@@ -53,6 +54,7 @@ fn after_ascii(rest: &[u8], left: u8) -> &[u8]
 }
 
 // Is a byte string text. It stays a call, so that the walk's loop over entries does not hold its code.
+// Stays: a loop, since a character takes one to four bytes, and eight are passed at once where they are ASCII.
 #[inline(never)]
 pub fn is_text(x: &[u8]) -> bool
     ensures { result ≡ is_text x.now }

@@ -1,11 +1,11 @@
 // Tokens of a payload, as the walk by one loop takes them (document 02, request 09).
-ghost use Rattle.std.specs.Prelude.{◌≡◌, true};
+ghost use Rattle.std.specs.Prelude.{◌≡◌};
 ghost use Rattle.octets.specs.Bytes.{byte_at};
-ghost use Rattle.bencode.specs.Classes.{class_of, is_table};
+ghost use Rattle.bencode.specs.Classes.{class_of};
 ghost use Rattle.bencode.specs.KeySearch.{Sound};
 ghost use Rattle.bencode.specs.Tokens.{key_token, open_token, value_token, token_at};
 
-use super::classes::class_at;
+use super::classes::Classes;
 use super::depth::Depth;
 use super::fault::{Cause, Fault};
 use super::integers::integer;
@@ -97,6 +97,7 @@ fn value_token(s: &[u8], at: usize, class: u8, depth: usize) -> Result<Token, Fa
 
 // The token at an offset, or the fault there, in so many lists and dictionaries, of which the innermost is a level; valued says that
 // a value has to stand there.
+// Stays: `valued` is one of two cases with nothing beside it.
 #[tactic(auto, unfolding(crate::specs::Tokens::token_at), using(crate::proofs::walking::ClassLaws::sign_class))]
 pub fn token_at(
     s: &[u8],
@@ -105,13 +106,12 @@ pub fn token_at(
     level: Level,
     valued: bool,
     profile: Profile,
-    classes: &[u8; 256],
+    classes: &Classes,
 ) -> Result<Token, Fault>
-    requires sound { Sound s.now level.seen }
-    requires table { is_table classes.now ≡ true }
+    requires { Sound s.now level.seen }
     ensures { result ≡ token_at profile s.now depth level valued at }
 {
-    let class = class_at(classes, s, at);
+    let class = classes.at(s, at);
     if !valued && depth == 0 {
         return Ok(Token::Done(at));
     }

@@ -1,13 +1,12 @@
 // The walk of a payload: values, lists and dictionaries, which hold values again. Calls nest by level; items go by a loop.
-ghost use Rattle.std.specs.Prelude.{◌≡◌, true, ◌≤◌};
-ghost use Rattle.bencode.specs.Classes.{is_table};
+ghost use Rattle.std.specs.Prelude.{◌≡◌, ◌≤◌};
 ghost use Rattle.bencode.specs.Depth.{largest_depth, levels_left};
 ghost use Rattle.bencode.specs.Entry.{entry_at};
 ghost use Rattle.bencode.specs.Fault.{code_of, offset_of};
 ghost use Rattle.bencode.specs.Record.{noted_of};
 ghost use Rattle.bencode.specs.Walk.{value_at, list_at, dictionary_at, whole, payload_at, payload_code, payload_offset};
 
-use super::classes::{class_at, classes};
+use super::classes::Classes;
 use super::depth::Depth;
 use super::fault::{Cause, Fault};
 use super::key::{Seen, check_key};
@@ -24,12 +23,12 @@ pub fn value(
     at: usize,
     depth: Depth,
     profile: Profile,
-    classes: &[u8; 256],
+    classes: &Classes,
 ) -> Result<usize, Fault>
-    requires { (depth.0 ≤ largest_depth) × (is_table classes.now ≡ true) }
+    requires { depth.0 ≤ largest_depth }
     ensures { result ≡ value_at profile (levels_left depth) s.now at }
 {
-    let class = class_at(classes, s, at);
+    let class = classes.at(s, at);
     let too_deep = Fault {
         cause: Cause::Depth,
         offset: at,
@@ -46,20 +45,21 @@ pub fn value(
 }
 
 // The offset after the list whose values start at an offset. Only a value that nests, or a fault, needs a call of `value`.
+// Stays: a loop, since where a value starts is known only after the one before it, which may be a fault.
 #[cycle(dictionary_list_value)]
 pub fn list(
     s: &[u8],
     from: usize,
     depth: Depth,
     profile: Profile,
-    classes: &[u8; 256],
+    classes: &Classes,
 ) -> Result<usize, Fault>
-    requires { (depth.0 ≤ largest_depth) × (is_table classes.now ≡ true) }
+    requires { depth.0 ≤ largest_depth }
     ensures { result ≡ list_at profile (levels_left depth) s.now from }
 {
     let mut at = from;
     loop {
-        let class = class_at(classes, s, at);
+        let class = classes.at(s, at);
         if class == b'e' {
             return Ok(at + 1);
         }
@@ -72,6 +72,7 @@ pub fn list(
 }
 
 // The offset after the dictionary whose entries start at an offset, and where the value of a key is in it.
+// Stays: a loop, for the same reason.
 #[cycle(dictionary_list_value)]
 pub fn dictionary(
     s: &[u8],
@@ -79,16 +80,16 @@ pub fn dictionary(
     key: &[u8],
     depth: Depth,
     profile: Profile,
-    classes: &[u8; 256],
+    classes: &Classes,
 ) -> Result<Noted, Fault>
-    requires { (depth.0 ≤ largest_depth) × (is_table classes.now ≡ true) }
+    requires { depth.0 ≤ largest_depth }
     ensures { result ≡ noted_of (dictionary_at profile (levels_left depth) s.now from) (entry_at s.now key.now from) }
 {
     let mut at = from;
     let mut seen = Seen::none(from);
     let mut found = None;
     loop {
-        if class_at(classes, s, at) == b'e' {
+        if classes.at(s, at) == b'e' {
             return Ok(Noted {
                 end: at + 1,
                 value: found,
@@ -124,6 +125,6 @@ pub fn payload(s: &[u8], profile: Profile) -> Result<usize, Fault>
     ensures answer { result ≡ payload_at profile s.now }
     ensures numbers { (code_of result ≡ payload_code profile s.now) × (offset_of result ≡ payload_offset profile s.now) }
 {
-    let table = classes();
-    whole(s, value(s, 0, Depth::outermost(), profile, &table))
+    let classes = Classes::new();
+    whole(s, value(s, 0, Depth::outermost(), profile, &classes))
 }

@@ -6,7 +6,6 @@ use Rattle.canonical.specs.Answer as Sorter
 use Rattle.canonical.specs.Answer.{lent_after, sort_code, sort_offset, sort_count}
 use Rattle.ipc.specs.Header as Frame
 use Rattle.c_api.specs.declared.sort.SortAnswer.{SortAnswer}
-use Rattle.canonical.specs.declared.sorter.SortRefusal.{SortRefusal}
 
 -- the sorter's answer
 abbrev pub sort_numbers : Result ℕ SortRefusal → SortAnswer

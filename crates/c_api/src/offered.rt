@@ -5,6 +5,7 @@ ghost use Rattle.c_api.specs.Offered.{offered};
 use ipc::Given;
 
 // The value of a kind, or none for a number that is no kind of value.
+// Stays: the C interface has a number for the kind.
 #[tactic(auto, unfolding(crate::specs::Offered::offered))]
 pub fn offered_of(kind: u32, integer: i64) -> Option<Given>
     ensures { result ≡ offered kind integer }

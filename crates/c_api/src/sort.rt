@@ -7,6 +7,7 @@ ghost use Rattle.c_api.specs.Sort.{sort_numbers, SortedAs};
 use canonical::SortRefusal;
 
 // Code 0 and the count of the bytes written, or the refusal's code and offset.
+// Stays: the C interface has numbers.
 #[repr(C)]
 #[derive(Clone, Copy)]
 pub struct SortAnswer {

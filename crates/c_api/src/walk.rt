@@ -6,6 +6,7 @@ ghost use Rattle.c_api.specs.Walk.{profile_of, walk_numbers};
 use bencode::{Fault, Profile};
 
 // The fault's code and offset, or 0 and the payload's length.
+// Stays: the C interface has numbers.
 #[repr(C)]
 #[derive(Clone, Copy)]
 pub struct WalkAnswer {
@@ -13,6 +14,7 @@ pub struct WalkAnswer {
     pub offset: usize,
 }
 
+// Stays: the C interface has a mark for the profile.
 fn profile(strict: bool) -> Profile
     ensures { result ≡ profile_of strict }
 {

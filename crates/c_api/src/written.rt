@@ -5,6 +5,7 @@ ghost use Rattle.c_api.specs.Written.{written_numbers};
 use ipc::WriteRefusal;
 
 // Code 0 and the frame's byte count, or the code of the refusal and 0.
+// Stays: the C interface has numbers.
 #[repr(C)]
 #[derive(Clone, Copy)]
 pub struct WriteAnswer {

@@ -1,5 +1,5 @@
 // Which entry of a dictionary comes next in order: the one with the least key above that of the last one written.
-ghost use Rattle.std.specs.Prelude.{◌≡◌, ◌≤◌, ◌-◌, length};
+ghost use Rattle.std.specs.Prelude.{◌≡◌, ◌-◌, length};
 ghost use Rattle.std.specs.Iterator.{at_most};
 ghost use Rattle.octets.specs.Bytes.{less};
 ghost use Rattle.canonical.specs.SortWalk.{nothing, is_past, bound_of, key_of, Stands, EntryStep, Inside, rises_at, least_at};

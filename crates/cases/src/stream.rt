@@ -1,5 +1,5 @@
 // The stream: cases taken and answered one by one.
-ghost use Rattle.std.specs.Prelude.{◌≡◌, IfOk, IfErr, is_ok};
+ghost use Rattle.std.specs.Prelude.{◌≡◌, IfOk, is_ok};
 ghost use Rattle.std.specs.Io.KnownBytes.{IsAtEnd};
 ghost use Rattle.std.specs.Counts.{IsPrefixLen};
 ghost use Rattle.cases.specs.declared.stream.Stop.TheVariants.{Io};

@@ -1,6 +1,7 @@
 // The watch list's records.
 
 // A watched transfer: its torrent ID and whether it is desired running.
+// Stays: a running mark, as document 01 has it in the record that is handed in.
 #[derive(Clone, Copy, PartialEq, Eq)]
 pub struct Watch {
     pub id: u32,

@@ -61,5 +61,5 @@ pub fn value_fits(class: Class, given: Given, s: &[u8]) -> bool
 pub fn tag_fits(tag: u32) -> bool
     ensures { result ≡ leb tag largest_tag }
 {
-    tag == 0 || Tag::new(tag as i64).is_some()
+    tag == 0 || Tag::new(i64::from(tag)).is_some()
 }

@@ -35,7 +35,7 @@ fn any_integer(p: &[u8], at: usize) -> Option<Value>
 pub fn is_up_to(z: i64, high: u16) -> bool
     ensures { result ≡ within 0 high z }
 {
-    (0..=high as i64).contains(&z)
+    (0..=i64::from(high)).contains(&z)
 }
 
 // An integer from 0 to another.
@@ -121,6 +121,7 @@ fn item_end(p: &[u8], at: usize, items: Items) -> Option<usize>
 }
 
 // The offset after the items of a list.
+// Stays: a loop, since each item tells where the next starts.
 pub fn items_end(p: &[u8], from: usize, items: Items) -> Option<usize>
     ensures { result ≡ items_end items p.now from }
 {

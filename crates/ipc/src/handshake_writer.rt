@@ -22,9 +22,9 @@ fn put_handshake(out: &mut [u8], low: u32, high: u32, size: u32) -> usize
     let header = hex_header(size);
     let o = put_bytes(out, 0, &header);
     let o = put_bytes(out, o, b"d7:versiond3:min");
-    let o = put_integer(out, o, low as i64);
+    let o = put_integer(out, o, i64::from(low));
     let o = put_bytes(out, o, b"3:max");
-    let o = put_integer(out, o, high as i64);
+    let o = put_integer(out, o, i64::from(high));
     put_bytes(out, o, b"ee")
 }
 
@@ -32,7 +32,7 @@ fn put_handshake(out: &mut [u8], low: u32, high: u32, size: u32) -> usize
 fn write_range(low: u32, high: u32, out: &mut [u8]) -> Result<usize, WriteRefusal>
     ensures { Leaves (fitted (handshake_payload low high) (length out.old)) (handshake_payload low high) out.old result out.new }
 {
-    let size = integer_length(low as i64) + integer_length(high as i64) + HANDSHAKE_TEXT;
+    let size = integer_length(i64::from(low)) + integer_length(i64::from(high)) + HANDSHAKE_TEXT;
     if out.len() < HEADER_LENGTH + size {
         return Err(WriteRefusal::Room);
     }
@@ -43,6 +43,6 @@ fn write_range(low: u32, high: u32, out: &mut [u8]) -> Result<usize, WriteRefusa
 pub fn write_handshake(low: u32, high: u32, out: &mut [u8]) -> Result<usize, WriteRefusal>
     ensures { Leaves (handshake_written low high (length out.old)) (handshake_payload low high) out.old result out.new }
 {
-    Versions::new(low as i64, high as i64).ok_or(WriteRefusal::Value)?;
+    Versions::new(i64::from(low), i64::from(high)).ok_or(WriteRefusal::Value)?;
     write_range(low, high, out)
 }

@@ -10,7 +10,7 @@ pub fn number_in(largest: u32, n: i64) -> Option<u32>
     if n < 1 {
         return None;
     }
-    if (largest as i64) < n {
+    if i64::from(largest) < n {
         return None;
     }
     Some(n as u32)

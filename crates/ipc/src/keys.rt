@@ -203,7 +203,7 @@ pub fn key_of(text: &[u8]) -> Key
 fn row_of(number: u8) -> KeyRow
     ensures { result ≡ row_of (listed_at number) }
 {
-    match (number as usize).checked_sub(1) {
+    match usize::from(number).checked_sub(1) {
         Some(k) if k < LISTED => row_at(k),
         _ => UNLISTED,
     }

@@ -55,7 +55,7 @@ pub fn tag_length(tag: u32) -> usize
     if tag == 0 {
         return 0;
     }
-    integer_length(tag as i64)
+    integer_length(i64::from(tag))
 }
 
 // How long a key is as it is written.

@@ -39,7 +39,7 @@ pub fn text_list(p: &[u8], from: usize) -> ListCheck
 pub fn id_list(p: &[u8], from: usize) -> ListCheck
     ensures { (profile : Profile) → Listing profile Items.Ids p.now from result }
 {
-    closed_at(p, positives(p, from, TorrentId::LARGEST as u64))
+    closed_at(p, positives(p, from, u64::from(TorrentId::LARGEST)))
 }
 
 // Is a torrent ID at an offset.
@@ -53,6 +53,7 @@ fn is_id(p: &[u8], at: usize) -> bool
 }
 
 // The list of torrents whose items start at an offset: dictionaries whose `id` is a torrent ID; or its first fault.
+// Stays: a loop, since each record tells where the next starts, and a fault ends it.
 pub fn torrent_list(p: &[u8], from: usize, profile: Profile) -> Result<ListCheck, Fault>
     ensures { ListingOrFault profile Items.Torrents p.now from result }
 {

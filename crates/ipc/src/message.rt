@@ -104,7 +104,8 @@ fn value_held(p: Payload, key: u8, at: usize, check: ValueCheck) -> Option<Value
     }
 }
 
-// The answer for the key with a number and the value at an offset, which has been walked: the rest is walked.
+// The answer for the key with a number and the value at an offset, which has been walked: the rest is walked. This and `listed`
+// stay calls: with `rest` in line the loop over strings took 1.07 of the instructions.
 #[inline(never)]
 #[tactic(auto, unfolding(crate::specs::OnePass::keyed_reading))]
 fn rest(p: Payload, key: u8, at: usize, check: ValueCheck) -> Result<Frame, Refusal>

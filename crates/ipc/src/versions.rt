@@ -57,12 +57,13 @@ fn largest_common(a: Versions, b: Versions) -> Option<u32>
 fn agreed(low: u32, high: u32, low2: u32, high2: u32) -> Option<u32>
     ensures { result ≡ agreed (range_of (pos low) (pos high)) (range_of (pos low2) (pos high2)) }
 {
-    let a = Versions::new(low as i64, high as i64)?;
-    let b = Versions::new(low2 as i64, high2 as i64)?;
+    let a = Versions::new(i64::from(low), i64::from(high))?;
+    let b = Versions::new(i64::from(low2), i64::from(high2))?;
     largest_common(a, b)
 }
 
 // The version that two ranges agree on: the largest in both, or 0 if there is none or if either is no range.
+// Stays: 0 for none, which document 01 and the C interface answer.
 pub fn agreed_version(low: u32, high: u32, low2: u32, high2: u32) -> u32
     ensures { result ≡ agreed_version low high low2 high2 }
 {

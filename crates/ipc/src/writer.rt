@@ -81,7 +81,7 @@ fn put_tag(out: &mut [u8], at: usize, tag: u32) -> usize
     if tag == 0 {
         return put_bytes(out, at, b"");
     }
-    put_integer(out, at, tag as i64)
+    put_integer(out, at, i64::from(tag))
 }
 
 // The first refusal of a message whatever its length.

@@ -3,6 +3,7 @@ ghost use Rattle.std.specs.Prelude.{◌≡◌};
 ghost use Rattle.octets.specs.Bytes.{byte_at, same, less};
 
 // The byte at an offset, and 0 past the end.
+// Stays: 0 past the end, as each reader promises by it, and no Option: readers compare it with a byte.
 pub fn byte_at(s: &[u8], at: usize) -> u8
     ensures { result ≡ byte_at s.now at }
 {

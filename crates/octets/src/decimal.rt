@@ -1,5 +1,5 @@
 // Decimal digits written, by subtraction of powers of ten: the source has no division.
-ghost use Rattle.std.specs.Prelude.{◌≡◌, ◌+◌, ◌*◌, ◌^◌, ◌≤◌, ◌<◌, length};
+ghost use Rattle.std.specs.Prelude.{◌≡◌, ◌+◌, ◌*◌, ◌≤◌, ◌<◌, length};
 ghost use Rattle.octets.specs.Numerals.{decimal};
 ghost use Rattle.octets.specs.Put.{Wrote};
 
@@ -27,7 +27,7 @@ const TENS: [u64; 20] = [
     10000000000000000000,
 ];
 
-// The number of digits of n's decimal form: it has one more than the largest power of ten in it has zeros.
+// The number of digits of n's decimal form: one more than the largest power of ten in it has zeros, and 1 for 0.
 pub fn decimal_length(n: u64) -> usize
     ensures { (result ≡ length (decimal n)) × (result ≤ 20) }
 {

@@ -35,9 +35,9 @@ fn put_call(out: &mut [u8], kind: u8, code: u8, count: usize) -> usize
     requires { longest_line ≤ length out.old }
     ensures { Wrote out.old 0 (call_line kind code count) out.new result }
 {
-    let o = put_decimal(out, 0, kind as u64);
+    let o = put_decimal(out, 0, u64::from(kind));
     let o = put_bytes(out, o, b" ");
-    let o = put_decimal(out, o, code as u64);
+    let o = put_decimal(out, o, u64::from(code));
     let o = put_bytes(out, o, b" ");
     let o = put_decimal(out, o, count as u64);
     put_bytes(out, o, b"\n")

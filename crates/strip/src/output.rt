@@ -18,8 +18,8 @@ impl Output {
     // A line, and the longest call's bytes with a newline.
     pub const ROOM: usize = Output::LINE + LONGEST_FRAMES + 1;
 
-    #[tactic(auto, unfolding(crate::specs::Line::output_bytes))]
     // The bytes, or all there are where there are fewer.
+    #[tactic(auto, unfolding(crate::specs::Line::output_bytes))]
     pub fn text(&self) -> &[u8]
         ensures { result.now ≡ output_bytes self.now }
     {

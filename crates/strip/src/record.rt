@@ -75,6 +75,7 @@ impl Kind {
     }
 
     // May a record of it stand, as the first one or not, after a call or before any.
+    // Stays: two marks of where the record stands, with nothing beside them.
     fn may_stand(self, first: bool, called: bool) -> bool
         ensures { result ≡ may_stand first called (kind_number self) }
     {

@@ -111,7 +111,7 @@ impl Run {
         let desk = answer.desk;
         Step {
             run: self.with_desk(self.at, code != 0, desk),
-            output: word_text(b"open ", code as usize),
+            output: word_text(b"open ", usize::from(code)),
         }
     }
 

@@ -10,6 +10,7 @@ use std::io::Write;
 use strip::{begin, next_step};
 
 // Runs a strip and prints what it says, no more and no less. An error is the output's, and ends the run.
+// Stays: a loop over the states of a run, of which each comes from the one before.
 pub fn run_strip<W: Write>(out: &mut W, s: &[u8]) -> io::Result<()>
     ensures { OnOk result (Appends (W.contents out.old) (W.contents out.new) (printed s.now)) }
 {

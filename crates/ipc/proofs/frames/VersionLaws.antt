@@ -8,7 +8,7 @@ use borrow.Author.Tests.{leb-true, le-leb, lt-leb}
 use lib.Dec.{T, leb}
 use lib.IntN.{ℤ, pos, negsuc}
 use mir.Syntax.{w64}
-use mir.Val.{SFits, to_z}
+use mir.Val.{SFits}
 use Rattle.bencode.specs.Integers.{within}
 use Rattle.bencode.proofs.scalars.Ranges.{machine, natural_machine, same, and_false}
 use Rattle.ipc.specs.Ids.{number_in}
@@ -101,6 +101,9 @@ module _ (low high : ℕ) where
       let z : ◌≡◌ {A = ℕ} 0 1 = cc in
       omega arith
 
--- the numbers as the machine has them
-pub range_machine : (low high : ℕ) → low < 2 ^ 63 → high < 2 ^ 63 → range_of (to_z w64 low) (to_z w64 high) ≡ range_of (pos low) (pos high)
-range_machine low high l h = rw (natural_machine low l, natural_machine high h) refl
+-- a natural number converted to an integer, as the machine has it
+pub from_machine : (n : ℕ) (z : ℤ) → n < 2 ^ 63 → z ≡ pos n → machine z ≡ pos n
+from_machine n z small e = rw e (natural_machine n small)
+
+pub range_machine : (low high : ℕ) (x y : ℤ) → low < 2 ^ 63 → high < 2 ^ 63 → x ≡ pos low → y ≡ pos high → range_of (machine x) (machine y) ≡ range_of (pos low) (pos high)
+range_machine low high x y l h d e = rw (from_machine low x l d, from_machine high y h e) refl

@@ -6,19 +6,20 @@ use mathlib.Core.List.{List}
 use mathlib.Core.Logic.{⊎_elim}
 use native.Mathlib.Omega.{arith}
 use borrow.Author.Tests.{eq-eqb, ne_eqb}
-use lib.IntN.{ℤ}
+use lib.IntN.{ℤ, pos}
 use lib.ListN.{length}
 use mir.Syntax.{w64}
-use mir.Val.{SFits, to_z}
+use mir.Val.{SFits}
 use Rattle.octets.specs.Numerals.{decimal_before, decimal}
 use Rattle.bencode.specs.Value.{integer, encode_string, encode}
 use Rattle.octets.proofs.digits.DigitLaws.{lt_or_le}
 use Rattle.bencode.proofs.writing.PutParts.{string_size}
-use Rattle.bencode.proofs.scalars.Ranges.{machine, natural_machine, same}
+use Rattle.bencode.proofs.scalars.Ranges.{machine, same}
 use Rattle.ipc.specs.declared.keys.Class.{Class}
 use Rattle.ipc.specs.declared.writer.Given.{Given}
 use Rattle.ipc.specs.Header.{largest_payload}
 use Rattle.ipc.specs.Writer.{encode_given, encode_tag}
+use Rattle.ipc.proofs.frames.VersionLaws.{from_machine}
 
 -- a length that a number gives, added to the number: over the largest payload it does not matter which number gives it
 cut_sum : (more : ℕ → ℕ) (n m : ℕ) → m ≡ min n (largest_payload + 1) → min (m + more m) (largest_payload + 1) ≡ min (more n + n) (largest_payload + 1)
@@ -58,6 +59,6 @@ module _ (tag : ℕ) where
   unfolding encode_tag
   no_tag_length e = rw (eq-eqb tag 0 e) refl
 
-  pub tag_length_lem : (tag ≡ 0 → ⊥) → tag < 2 ^ 63 → length (encode (integer (to_z w64 tag))) ≡ length (encode_tag tag)
+  pub tag_length_lem : (z : ℤ) → (tag ≡ 0 → ⊥) → tag < 2 ^ 63 → z ≡ pos tag → length (encode (integer (machine z))) ≡ length (encode_tag tag)
   unfolding encode_tag
-  tag_length_lem e h = rw (ne_eqb tag 0 e, natural_machine tag h) refl
+  tag_length_lem z e h p = rw (ne_eqb tag 0 e, from_machine tag z h p) refl

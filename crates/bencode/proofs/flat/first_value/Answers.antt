@@ -23,8 +23,7 @@ token_at-requires c =
     let a = c.args in
     let s = a.s.now in
     let l = c.loop-token in
-    let w = stand_sound a.profile s l.row l.depth l.level l.valued l.at l.invariant in
-    record { sound = w; table = c.classes-table.ensures }
+    stand_sound a.profile s l.row l.depth l.level l.valued l.at l.invariant
 
 pub returns-in_err-token : goal.returns-in_err-token
 returns-in_err-token c =

@@ -29,32 +29,29 @@ use Rattle.std.proofs.lemmas.Result.{err_from_is_err_and}
 use Rattle.std.specs.Prelude.{Option, ok_or}
 use Rattle.bencode.proofs.walk.+dictionary_list_value.Goals as goal
 
-pub dictionary-loop-depth-init : goal.dictionary-loop-depth-init
-dictionary-loop-depth-init t c =
+pub dictionary-loop-at-init : goal.dictionary-loop-at-init
+dictionary-loop-at-init t c =
     let a = c.args in
     let s = a.s.now in
     let value = value_at a.profile (levels_left a.depth) s in
     ([], subst (λ (x : Seen). Kept value s x a.from []) (sym c.none-seen.ensures) (kept_none value s a.from), refl, refl)
-
-pub dictionary-class_at-requires : goal.dictionary-class_at-requires
-dictionary-class_at-requires t c = c.requires.1
 
 pub dictionary-overflow_add-result : goal.dictionary-overflow_add-result
 dictionary-overflow_add-result t c =
     let a = c.args in
     let s = a.s.now in
     let levels = levels_left a.depth in
-    let l = c.loop-depth in
-    let e = class_is 101 refl (byte_at s l.at) (sym c.class_at.ensures ∙ c.if-class_at-eq101.true) in
+    let l = c.loop-at in
+    let e = class_is 101 refl (byte_at s l.at) (sym c.at.ensures ∙ c.if-at-eq101.true) in
     omega (arith, inside s l.at (omega (arith, e)))
 
-pub dictionary-returns-then-class_at-eq101 : goal.dictionary-returns-then-class_at-eq101
-dictionary-returns-then-class_at-eq101 t c =
+pub dictionary-returns-then-at-eq101 : goal.dictionary-returns-then-at-eq101
+dictionary-returns-then-at-eq101 t c =
     let a = c.args in
     let s = a.s.now in
     let levels = levels_left a.depth in
-    let l = c.loop-depth in
-    let e = class_is 101 refl (byte_at s l.at) (sym c.class_at.ensures ∙ c.if-class_at-eq101.true) in
+    let l = c.loop-at in
+    let e = class_is 101 refl (byte_at s l.at) (sym c.at.ensures ∙ c.if-at-eq101.true) in
     noted_end a.profile levels s a.key.now a.from l.at l.found l.invariant.3 e (dictionary_end a.profile levels s l.at l.invariant.0 e ∙ l.invariant.2)
 
 pub dictionary-returns-in_err-text : goal.dictionary-returns-in_err-text
@@ -62,8 +59,8 @@ dictionary-returns-in_err-text t c =
     let a = c.args in
     let s = a.s.now in
     let levels = levels_left a.depth in
-    let l = c.loop-depth in
-    let more = class_is_not 101 refl (byte_at s l.at) (λ e. c.if-class_at-eq101.false (c.class_at.ensures ∙ e)) in
+    let l = c.loop-at in
+    let more = class_is_not 101 refl (byte_at s l.at) (λ e. c.if-at-eq101.false (c.at.ensures ∙ e)) in
     let p = err_from_is_err_and c.from_residual.result c.from_residual.ensures.1 in
     rw (p.1, p.2) (noted_fault (dictionary_at a.profile levels s a.from) (entry_at s a.key.now a.from) _ (dictionary_no_key a.profile levels s l.at l.invariant.0 more _ (sym c.key_string.ensures ∙ c.in_err-text.was) ∙ l.invariant.2))
 
@@ -72,7 +69,7 @@ dictionary-check_key-requires t c =
     let a = c.args in
     let s = a.s.now in
     let levels = levels_left a.depth in
-    let l = c.loop-depth in
+    let l = c.loop-at in
     let is = key_stands s l.at c.in_ok-text.text.start c.in_ok-text.text.end (sym c.key_string.ensures ∙ c.in_ok-text.was) in
     let w = string_whole_inv s l.at c.in_ok-text.text.start c.in_ok-text.text.end is.0 in
     record { inside = (w.ordered, w.within); sound = (l.invariant.1.ordered, l.invariant.1.within) }
@@ -82,8 +79,8 @@ dictionary-returns-in_err-seen t c =
     let a = c.args in
     let s = a.s.now in
     let levels = levels_left a.depth in
-    let l = c.loop-depth in
-    let more = class_is_not 101 refl (byte_at s l.at) (λ e. c.if-class_at-eq101.false (c.class_at.ensures ∙ e)) in
+    let l = c.loop-at in
+    let more = class_is_not 101 refl (byte_at s l.at) (λ e. c.if-at-eq101.false (c.at.ensures ∙ e)) in
     let is = key_stands s l.at c.in_ok-text.text.start c.in_ok-text.text.end (sym c.key_string.ensures ∙ c.in_ok-text.was) in
     let no = key_refused a.profile levels s l.seen l.at l.invariant.0 l.invariant.1 c.in_ok-text.text.start c.in_ok-text.text.end is.0 is.1 c.in_err-seen.field-0.0 (sym c.check_key.ensures ∙ c.in_err-seen.was) in
     let p = err_from_is_err_and c.from_residual-in_err-seen.result c.from_residual-in_err-seen.ensures.1 in
@@ -93,32 +90,29 @@ pub dictionary-found_after-found-requires : goal.dictionary-found_after-found-re
 dictionary-found_after-found-requires t c =
     let a = c.args in
     let s = a.s.now in
-    let l = c.loop-depth in
+    let l = c.loop-at in
     let is = key_stands s l.at c.in_ok-text.text.start c.in_ok-text.text.end (sym c.key_string.ensures ∙ c.in_ok-text.was) in
     let w = string_whole_inv s l.at c.in_ok-text.text.start c.in_ok-text.text.end is.0 in
     (w.ordered, w.within)
 
-pub dictionary-quick_scalar-requires : goal.dictionary-quick_scalar-requires
-dictionary-quick_scalar-requires t c = c.requires.1
-
-pub dictionary-loop-depth-smaller-in-Some : goal.dictionary-loop-depth-smaller-in-Some
-dictionary-loop-depth-smaller-in-Some t c =
+pub dictionary-loop-at-smaller-in-Some : goal.dictionary-loop-at-smaller-in-Some
+dictionary-loop-at-smaller-in-Some t c =
     let a = c.args in
     let s = a.s.now in
     let levels = levels_left a.depth in
-    let l = c.loop-depth in
+    let l = c.loop-at in
     let is = key_stands s l.at c.in_ok-text.text.start c.in_ok-text.text.end (sym c.key_string.ensures ∙ c.in_ok-text.was) in
     let v = scalar_value a.profile levels s c.in_ok-text.text.end c.in-Some.after c.in-Some.ensures in
     let w = string_whole_inv s l.at c.in_ok-text.text.start c.in_ok-text.text.end is.0 in
     omega (arith, value_ends a.profile levels s c.in_ok-text.text.end c.in-Some.after v)
 
-pub dictionary-loop-depth-preserved-in-Some : goal.dictionary-loop-depth-preserved-in-Some
-dictionary-loop-depth-preserved-in-Some t c =
+pub dictionary-loop-at-preserved-in-Some : goal.dictionary-loop-at-preserved-in-Some
+dictionary-loop-at-preserved-in-Some t c =
     let a = c.args in
     let s = a.s.now in
     let levels = levels_left a.depth in
-    let l = c.loop-depth in
-    let more = class_is_not 101 refl (byte_at s l.at) (λ e. c.if-class_at-eq101.false (c.class_at.ensures ∙ e)) in
+    let l = c.loop-at in
+    let more = class_is_not 101 refl (byte_at s l.at) (λ e. c.if-at-eq101.false (c.at.ensures ∙ e)) in
     let is = key_stands s l.at c.in_ok-text.text.start c.in_ok-text.text.end (sym c.key_string.ensures ∙ c.in_ok-text.was) in
     let ok = key_allowed a.profile levels s l.seen l.at l.invariant.0 l.invariant.1 c.in_ok-text.text.start c.in_ok-text.text.end is.0 is.1 c.in_ok-seen.seen (sym c.check_key.ensures ∙ c.in_ok-seen.was) in
     let v = scalar_value a.profile levels s c.in_ok-text.text.end c.in-Some.after c.in-Some.ensures in
@@ -132,24 +126,24 @@ dictionary-loop-depth-preserved-in-Some t c =
 pub dictionary-value-requires : goal.dictionary-value-requires
 dictionary-value-requires t c = (omega arith, c.requires)
 
-pub dictionary-loop-depth-smaller : goal.dictionary-loop-depth-smaller
-dictionary-loop-depth-smaller t c =
+pub dictionary-loop-at-smaller : goal.dictionary-loop-at-smaller
+dictionary-loop-at-smaller t c =
     let a = c.args in
     let s = a.s.now in
     let levels = levels_left a.depth in
-    let l = c.loop-depth in
+    let l = c.loop-at in
     let is = key_stands s l.at c.in_ok-text.text.start c.in_ok-text.text.end (sym c.key_string.ensures ∙ c.in_ok-text.was) in
     let v = sym c.value.ensures ∙ c.in_ok-at.was in
     let w = string_whole_inv s l.at c.in_ok-text.text.start c.in_ok-text.text.end is.0 in
     omega (arith, value_ends a.profile levels s c.in_ok-text.text.end c.in_ok-at.at v)
 
-pub dictionary-loop-depth-preserved : goal.dictionary-loop-depth-preserved
-dictionary-loop-depth-preserved t c =
+pub dictionary-loop-at-preserved : goal.dictionary-loop-at-preserved
+dictionary-loop-at-preserved t c =
     let a = c.args in
     let s = a.s.now in
     let levels = levels_left a.depth in
-    let l = c.loop-depth in
-    let more = class_is_not 101 refl (byte_at s l.at) (λ e. c.if-class_at-eq101.false (c.class_at.ensures ∙ e)) in
+    let l = c.loop-at in
+    let more = class_is_not 101 refl (byte_at s l.at) (λ e. c.if-at-eq101.false (c.at.ensures ∙ e)) in
     let is = key_stands s l.at c.in_ok-text.text.start c.in_ok-text.text.end (sym c.key_string.ensures ∙ c.in_ok-text.was) in
     let ok = key_allowed a.profile levels s l.seen l.at l.invariant.0 l.invariant.1 c.in_ok-text.text.start c.in_ok-text.text.end is.0 is.1 c.in_ok-seen.seen (sym c.check_key.ensures ∙ c.in_ok-seen.was) in
     let v = sym c.value.ensures ∙ c.in_ok-at.was in
@@ -165,8 +159,8 @@ dictionary-returns-in_err-at t c =
     let a = c.args in
     let s = a.s.now in
     let levels = levels_left a.depth in
-    let l = c.loop-depth in
-    let more = class_is_not 101 refl (byte_at s l.at) (λ e. c.if-class_at-eq101.false (c.class_at.ensures ∙ e)) in
+    let l = c.loop-at in
+    let more = class_is_not 101 refl (byte_at s l.at) (λ e. c.if-at-eq101.false (c.at.ensures ∙ e)) in
     let is = key_stands s l.at c.in_ok-text.text.start c.in_ok-text.text.end (sym c.key_string.ensures ∙ c.in_ok-text.was) in
     let ok = key_allowed a.profile levels s l.seen l.at l.invariant.0 l.invariant.1 c.in_ok-text.text.start c.in_ok-text.text.end is.0 is.1 c.in_ok-seen.seen (sym c.check_key.ensures ∙ c.in_ok-seen.was) in
     let p = err_from_is_err_and c.from_residual-in_err-at.result c.from_residual-in_err-at.ensures.1 in
@@ -175,16 +169,13 @@ dictionary-returns-in_err-at t c =
 pub list-loop-depth-init : goal.list-loop-depth-init
 list-loop-depth-init t c = refl
 
-pub list-class_at-class-requires : goal.list-class_at-class-requires
-list-class_at-class-requires t c = c.requires.1
-
 pub list-overflow_add-result : goal.list-overflow_add-result
 list-overflow_add-result t c =
     let a = c.args in
     let s = a.s.now in
     let levels = levels_left a.depth in
     let l = c.loop-depth in
-    let e = class_is 101 refl (byte_at s l.at) (sym c.class_at-class.ensures ∙ c.if-class-eq101.true) in
+    let e = class_is 101 refl (byte_at s l.at) (sym c.at-class.ensures ∙ c.if-class-eq101.true) in
     omega (arith, inside s l.at (omega (arith, e)))
 
 pub list-returns-then-class-eq101 : goal.list-returns-then-class-eq101
@@ -193,10 +184,7 @@ list-returns-then-class-eq101 t c =
     let s = a.s.now in
     let levels = levels_left a.depth in
     let l = c.loop-depth in
-    list_end a.profile levels s l.at (class_is 101 refl (byte_at s l.at) (sym c.class_at-class.ensures ∙ c.if-class-eq101.true)) ∙ l.invariant
-
-pub list-quick_items-requires : goal.list-quick_items-requires
-list-quick_items-requires t c = c.requires.1
+    list_end a.profile levels s l.at (class_is 101 refl (byte_at s l.at) (sym c.at-class.ensures ∙ c.if-class-eq101.true)) ∙ l.invariant
 
 pub list-loop-depth-smaller-in-Some : goal.list-loop-depth-smaller-in-Some
 list-loop-depth-smaller-in-Some t c = omega (arith, c.in-Some.ensures.0, c.in-Some.ensures.1.0)
@@ -224,7 +212,7 @@ list-loop-depth-preserved t c =
     let s = a.s.now in
     let levels = levels_left a.depth in
     let l = c.loop-depth in
-    let more = class_is_not 101 refl (byte_at s l.at) (λ e. c.if-class-eq101.false (c.class_at-class.ensures ∙ e)) in
+    let more = class_is_not 101 refl (byte_at s l.at) (λ e. c.if-class-eq101.false (c.at-class.ensures ∙ e)) in
     list_more a.profile levels s l.at more c.in_ok-at.at (sym c.value.ensures ∙ c.in_ok-at.was) ∙ l.invariant
 
 pub list-returns-in_err-at : goal.list-returns-in_err-at
@@ -233,19 +221,16 @@ list-returns-in_err-at t c =
     let s = a.s.now in
     let levels = levels_left a.depth in
     let l = c.loop-depth in
-    let more = class_is_not 101 refl (byte_at s l.at) (λ e. c.if-class-eq101.false (c.class_at-class.ensures ∙ e)) in
+    let more = class_is_not 101 refl (byte_at s l.at) (λ e. c.if-class-eq101.false (c.at-class.ensures ∙ e)) in
     let p = err_from_is_err_and c.from_residual.result c.from_residual.ensures.1 in
     rw (p.1, p.2) (list_fault_lem a.profile levels s l.at more _ (sym c.value.ensures ∙ c.in_err-at.was) ∙ l.invariant)
-
-pub value-class_at-class-requires : goal.value-class_at-class-requires
-value-class_at-class-requires t c = c.requires.1
 
 pub value-overflow_add-at : goal.value-overflow_add-at
 value-overflow_add-at t c =
     let a = c.args in
     let s = a.s.now in
     let levels = levels_left a.depth in
-    let e = class_is 108 refl (byte_at s a.at) (sym c.class_at-class.ensures ∙ c.if-class-eq108.true) in
+    let e = class_is 108 refl (byte_at s a.at) (sym c.at-class.ensures ∙ c.if-class-eq108.true) in
     omega (arith, inside s a.at (omega (arith, e)))
 
 pub value-returns-in_err-inner : goal.value-returns-in_err-inner
@@ -254,19 +239,19 @@ value-returns-in_err-inner t c =
     let s = a.s.now in
     let d = too_deep_left a.depth _ _ (ap (λ (o : Option Depth). ok_or o (fault Cause.Depth a.at)) (sym c.nested.ensures) ∙ sym c.ok_or.ensures.value ∙ c.in_err-inner.was) in
     let p = err_from_is_err_and c.from_residual.result c.from_residual.ensures.1 in
-    rw (p.1, p.2, ← d.1) (value_deep_list a.profile (levels_left a.depth) s a.at d.0 (class_is 108 refl (byte_at s a.at) (sym c.class_at-class.ensures ∙ c.if-class-eq108.true)))
+    rw (p.1, p.2, ← d.1) (value_deep_list a.profile (levels_left a.depth) s a.at d.0 (class_is 108 refl (byte_at s a.at) (sym c.at-class.ensures ∙ c.if-class-eq108.true)))
 
 pub value-list-requires : goal.value-list-requires
 value-list-requires t c =
     let d = deeper_left c.args.depth c.in_ok-inner.inner (fault Cause.Depth c.args.at) (ap (λ (o : Option Depth). ok_or o (fault Cause.Depth c.args.at)) (sym c.nested.ensures) ∙ sym c.ok_or.ensures.value ∙ c.in_ok-inner.was) in
-    (omega arith, (d.1, c.requires.1))
+    (omega arith, d.1)
 
 pub value-returns-then-class-eq108 : goal.value-returns-then-class-eq108
 value-returns-then-class-eq108 t c =
     let a = c.args in
     let s = a.s.now in
     let d = deeper_left a.depth c.in_ok-inner.inner (fault Cause.Depth a.at) (ap (λ (o : Option Depth). ok_or o (fault Cause.Depth a.at)) (sym c.nested.ensures) ∙ sym c.ok_or.ensures.value ∙ c.in_ok-inner.was) in
-    c.list.ensures ∙ value_list a.profile (levels_left a.depth) (levels_left c.in_ok-inner.inner) s a.at d.0 (class_is 108 refl (byte_at s a.at) (sym c.class_at-class.ensures ∙ c.if-class-eq108.true))
+    c.list.ensures ∙ value_list a.profile (levels_left a.depth) (levels_left c.in_ok-inner.inner) s a.at d.0 (class_is 108 refl (byte_at s a.at) (sym c.at-class.ensures ∙ c.if-class-eq108.true))
 
 pub value-returns-in_err-inner-2 : goal.value-returns-in_err-inner-2
 value-returns-in_err-inner-2 t c =
@@ -274,19 +259,19 @@ value-returns-in_err-inner-2 t c =
     let s = a.s.now in
     let d = too_deep_left a.depth _ _ (ap (λ (o : Option Depth). ok_or o (fault Cause.Depth a.at)) (sym c.nested-then-class-eq100.ensures) ∙ sym c.ok_or-then-class-eq100.ensures.value ∙ c.in_err-inner-2.was) in
     let p = err_from_is_err_and c.from_residual-in_err-inner-2.result c.from_residual-in_err-inner-2.ensures.1 in
-    rw (p.1, p.2, ← d.1) (value_deep_dictionary a.profile (levels_left a.depth) s a.at d.0 (class_is 100 refl (byte_at s a.at) (sym c.class_at-class.ensures ∙ c.if-class-eq100.true)))
+    rw (p.1, p.2, ← d.1) (value_deep_dictionary a.profile (levels_left a.depth) s a.at d.0 (class_is 100 refl (byte_at s a.at) (sym c.at-class.ensures ∙ c.if-class-eq100.true)))
 
 pub value-overflow_add-at-then-class-eq100 : goal.value-overflow_add-at-then-class-eq100
 value-overflow_add-at-then-class-eq100 t c =
     let a = c.args in
     let s = a.s.now in
-    let e = class_is 100 refl (byte_at s a.at) (sym c.class_at-class.ensures ∙ c.if-class-eq100.true) in
+    let e = class_is 100 refl (byte_at s a.at) (sym c.at-class.ensures ∙ c.if-class-eq100.true) in
     omega (arith, inside s a.at (omega (arith, e)))
 
 pub value-dictionary-requires : goal.value-dictionary-requires
 value-dictionary-requires t c =
     let d = deeper_left c.args.depth c.in_ok-inner-2.inner (fault Cause.Depth c.args.at) (ap (λ (o : Option Depth). ok_or o (fault Cause.Depth c.args.at)) (sym c.nested-then-class-eq100.ensures) ∙ sym c.ok_or-then-class-eq100.ensures.value ∙ c.in_ok-inner-2.was) in
-    (omega arith, (d.1, c.requires.1))
+    (omega arith, d.1)
 
 pub value-returns-in_err-dictionary : goal.value-returns-in_err-dictionary
 value-returns-in_err-dictionary t c =
@@ -295,7 +280,7 @@ value-returns-in_err-dictionary t c =
     let d = deeper_left a.depth c.in_ok-inner-2.inner (fault Cause.Depth a.at) (ap (λ (o : Option Depth). ok_or o (fault Cause.Depth a.at)) (sym c.nested-then-class-eq100.ensures) ∙ sym c.ok_or-then-class-eq100.ensures.value ∙ c.in_ok-inner-2.was) in
     let w = noted_err (dictionary_at a.profile (levels_left c.in_ok-inner-2.inner) s (a.at + 1)) (entry_at s [] (a.at + 1)) c.in_err-dictionary.field-0.0 (sym c.dictionary.ensures ∙ c.in_err-dictionary.was) in
     let p = err_from_is_err_and c.from_residual-in_err-dictionary.result c.from_residual-in_err-dictionary.ensures.1 in
-    rw (p.1, p.2) (sym w ∙ value_dictionary a.profile (levels_left a.depth) (levels_left c.in_ok-inner-2.inner) s a.at d.0 (class_is 100 refl (byte_at s a.at) (sym c.class_at-class.ensures ∙ c.if-class-eq100.true)))
+    rw (p.1, p.2) (sym w ∙ value_dictionary a.profile (levels_left a.depth) (levels_left c.in_ok-inner-2.inner) s a.at d.0 (class_is 100 refl (byte_at s a.at) (sym c.at-class.ensures ∙ c.if-class-eq100.true)))
 
 pub value-returns-then-class-eq100 : goal.value-returns-then-class-eq100
 value-returns-then-class-eq100 t c =
@@ -303,7 +288,7 @@ value-returns-then-class-eq100 t c =
     let s = a.s.now in
     let d = deeper_left a.depth c.in_ok-inner-2.inner (fault Cause.Depth a.at) (ap (λ (o : Option Depth). ok_or o (fault Cause.Depth a.at)) (sym c.nested-then-class-eq100.ensures) ∙ sym c.ok_or-then-class-eq100.ensures.value ∙ c.in_ok-inner-2.was) in
     let w = noted_ok (dictionary_at a.profile (levels_left c.in_ok-inner-2.inner) s (a.at + 1)) (entry_at s [] (a.at + 1)) c.in_ok-dictionary.field-0 (sym c.dictionary.ensures ∙ c.in_ok-dictionary.was) in
-    sym w ∙ value_dictionary a.profile (levels_left a.depth) (levels_left c.in_ok-inner-2.inner) s a.at d.0 (class_is 100 refl (byte_at s a.at) (sym c.class_at-class.ensures ∙ c.if-class-eq100.true))
+    sym w ∙ value_dictionary a.profile (levels_left a.depth) (levels_left c.in_ok-inner-2.inner) s a.at d.0 (class_is 100 refl (byte_at s a.at) (sym c.at-class.ensures ∙ c.if-class-eq100.true))
 
 pub value-returns : goal.value-returns
 value-returns t c =
@@ -311,4 +296,4 @@ value-returns t c =
     let s = a.s.now in
     let levels = levels_left a.depth in
     let b = byte_at s a.at in
-    c.scalar_end.ensures ∙ value_scalar a.profile levels s a.at (class_is_not 108 refl b (λ e. c.if-class-eq108.false (c.class_at-class.ensures ∙ e))) (class_is_not 100 refl b (λ e. c.if-class-eq100.false (c.class_at-class.ensures ∙ e)))
+    c.scalar_end.ensures ∙ value_scalar a.profile levels s a.at (class_is_not 108 refl b (λ e. c.if-class-eq108.false (c.at-class.ensures ∙ e))) (class_is_not 100 refl b (λ e. c.if-class-eq100.false (c.at-class.ensures ∙ e)))

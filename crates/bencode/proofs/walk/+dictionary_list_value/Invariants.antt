@@ -17,15 +17,15 @@ decreases-list l = 2 * levels_left l.depth + 1
 abbrev pub decreases-value : goal.decreases-value
 decreases-value l = 2 * levels_left l.depth
 
-abbrev pub invariant-dictionary-loop-depth : goal.invariant-dictionary-loop-depth
-invariant-dictionary-loop-depth l =
+abbrev pub invariant-dictionary-loop-at : goal.invariant-dictionary-loop-at
+invariant-dictionary-loop-at l =
     (keys : List (List ℕ))
     × Kept (value_at l.profile (levels_left l.depth) l.s) l.s l.seen l.at keys
     × (dictionary_from l.profile (value_at l.profile (levels_left l.depth) l.s) l.s l.at keys ≡ dictionary_at l.profile (levels_left l.depth) l.s l.from)
     × Looked l.s l.key l.from l.at l.found
 
-abbrev pub decreases-dictionary-loop-depth : goal.decreases-dictionary-loop-depth
-decreases-dictionary-loop-depth l = length l.s - l.at
+abbrev pub decreases-dictionary-loop-at : goal.decreases-dictionary-loop-at
+decreases-dictionary-loop-at l = length l.s - l.at
 
 abbrev pub invariant-list-loop-depth : goal.invariant-list-loop-depth
 invariant-list-loop-depth l = list_at l.profile (levels_left l.depth) l.s l.at ≡ list_at l.profile (levels_left l.depth) l.s l.from

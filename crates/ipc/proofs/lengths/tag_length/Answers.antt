@@ -9,4 +9,4 @@ pub returns-then-tag-eq0 : goal.returns-then-tag-eq0
 returns-then-tag-eq0 c = (no_tag_length c.args.tag c.if-tag-eq0.true, omega arith)
 
 pub returns : goal.returns
-returns c = (c.integer_length.ensures.0 ∙ tag_length_lem c.args.tag c.if-tag-eq0.false (omega arith), c.integer_length.ensures.1)
+returns c = (c.integer_length.ensures.0 ∙ tag_length_lem c.args.tag c.from.result c.if-tag-eq0.false (omega arith) c.from.ensures, c.integer_length.ensures.1)

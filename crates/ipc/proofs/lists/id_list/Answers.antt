@@ -11,4 +11,4 @@ pub returns : goal.returns
 returns c profile =
     let a = c.args in
     let l = c.positives in
-    subst (λ (r : ListCheck). Listing profile Items.Ids a.p.now a.from r) (sym c.closed_at.ensures) (id_listing profile a.p.now a.from l.result l.ensures.0)
+    subst (λ (r : ListCheck). Listing profile Items.Ids a.p.now a.from r) (sym c.closed_at.ensures) (id_listing profile a.p.now a.from l.result (rw c.from.ensures at l.ensures.0))

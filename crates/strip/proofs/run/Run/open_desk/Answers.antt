@@ -13,4 +13,4 @@ returns c =
     let run = c.args.self in
     let down = to_z-of_z w32 run.down (record { sfits = c.struct_told-1.given.1.1.1.0.1 }) in
     let up = to_z-of_z w32 run.up (record { sfits = c.struct_told-2-1.given.1.1.1.1.0.1 }) in
-    rw (c.with_desk.ensures, c.word_text.ensures, c.code-code.ensures) (opened_is run (opened_numbers c.open_records-answer.result) (rw (down, up) at c.open_records-answer.ensures))
+    rw (c.with_desk.ensures, c.word_text.ensures, c.from.ensures, c.code-code.ensures) (opened_is run (opened_numbers c.open_records-answer.result) (rw (down, up) at c.open_records-answer.ensures))
