@@ -1,8 +1,8 @@
--- The fault of a payload has a code of its profile.
+-- The fault of a payload has a code of its profile, and that of a value is not of bytes after it; a number tells the cause.
 -- Assumes nothing.
 use Prim.Native.Nat.{ℕ, zero, suc, ◌+◌, ◌-◌, ◌^◌}
-use mathlib.Core.Path.{◌≡◌, refl, subst}
-use mathlib.Core.Bool.{Bool, true, false, cond}
+use mathlib.Core.Path.{◌≡◌, refl, sym, ap, subst, ◌∙◌}
+use mathlib.Core.Bool.{Bool, true, false, cond, not, ◌&&◌}
 use mathlib.Core.List.{List, [], ◌∷◌}
 use lib.Dec.{eqb, leb, ltb}
 use lib.Signed.{mag}
@@ -12,7 +12,8 @@ use Rattle.bencode.specs.declared.strings.Text.{Text}
 use Rattle.bencode.specs.declared.profile.Profile.{Profile}
 use Rattle.octets.specs.Bytes.{byte_at, slice}
 use Rattle.octets.specs.Numerals.{numeral_at}
-use Rattle.bencode.specs.Fault.{fault, Walk, cause_code}
+use Rattle.octets.proofs.sequences.Order.{clash}
+use Rattle.bencode.specs.Fault.{fault, Walk, cause_code, fault_number}
 use Rattle.bencode.specs.Strings.{string_at, text_end, text_of}
 use Rattle.bencode.specs.Integers.{signed, integer_from, integer_at, number_end, number_of}
 use Rattle.bencode.specs.Loop.{LoopStep, next, done, after_step, repeat}
@@ -21,17 +22,21 @@ use Rattle.bencode.specs.Key.{is_used, is_above, order_fault, is_fault_code, key
 use Rattle.bencode.specs.Scalar.{scalar_at}
 use Rattle.bencode.specs.Walk.{onward, list_step, list_from, entry_step, dictionary_step, dictionary_from, value_at, whole, payload_at, keyed}
 use Rattle.bencode.specs.Depth.{largest_depth}
-use Rattle.bencode.specs.Demands.{FaultsCoded}
+use Rattle.bencode.specs.Demands.{FaultsCoded, FaultNumbersTell}
 use Rattle.std.specs.Prelude.{Ok, Err, Result, Option, Some, None}
 use Rattle.bencode.specs.declared.fault.Fault.{Fault}
 use Rattle.bencode.specs.declared.fault.Cause.{Cause}
 use native.Mathlib.Omega.{arith}
 
+-- has a cause a code of a profile, and is it not that of bytes after a value
+abbrev fits : Profile → Cause → Bool
+fits p c = is_fault_code p (cause_code c) && not (eqb (cause_code c) 9)
+
 module _ (p : Profile) where
-  -- a walk whose fault, if it is one, has a code of the profile
+  -- a walk of a value whose fault, if it is one, has such a cause
   abbrev Coded : Walk → Type 0
   Coded (Ok end) = Unit {0}
-  Coded (Err f) = is_fault_code p (cause_code f.cause) ≡ true
+  Coded (Err f) = fits p f.cause ≡ true
 
   pick : (t : Bool) (v w : Walk) → Coded v → Coded w → Coded (cond t v w)
   pick true v w x y = x
@@ -78,14 +83,14 @@ module _ (p : Profile) where
   scalar_coded s at = pick (eqb (byte_at s at) 105) (number_end (integer_at s at)) (text_end (string_at s at)) (number_coded s at) (text_coded s at)
 
   -- ---- keys
-  key_coded : (keys : List (List ℕ)) (key : List ℕ) (c : Cause) → key_fault p keys key ≡ Some c → is_fault_code p (cause_code c) ≡ true
+  key_coded : (keys : List (List ℕ)) (key : List ℕ) (c : Cause) → key_fault p keys key ≡ Some c → fits p c ≡ true
   unfolding key_fault
   key_coded keys key c e = go (is_text key) (is_used key keys) (is_above key keys) p e
     where
-      coded : (q : Profile) (d : Cause) → d ≡ c → is_fault_code q (cause_code d) ≡ true → is_fault_code q (cause_code c) ≡ true
-      coded q d i h = subst (λ (x : Cause). is_fault_code q (cause_code x) ≡ true) i h
+      coded : (q : Profile) (d : Cause) → d ≡ c → fits q d ≡ true → fits q c ≡ true
+      coded q d i h = subst (λ (x : Cause). fits q x ≡ true) i h
 
-      go : (w t u : Bool) (q : Profile) → cond w (cond t (Some Cause.RepeatedKey) (order_fault q u)) (Some Cause.IllFormedKey) ≡ Some c → is_fault_code q (cause_code c) ≡ true
+      go : (w t u : Bool) (q : Profile) → cond w (cond t (Some Cause.RepeatedKey) (order_fault q u)) (Some Cause.IllFormedKey) ≡ Some c → fits q c ≡ true
       go true true u q e = coded q Cause.RepeatedKey (cc) refl
       go true false u Profile.Loose e = let z : ◌≡◌ {A = ℕ} 0 1 = cc in absurd (omega arith)
       go true false true Profile.Strict e = let z : ◌≡◌ {A = ℕ} 0 1 = cc in absurd (omega arith)
@@ -148,13 +153,49 @@ module _ (p : Profile) where
       pick (eqb (byte_at s at) 108) l (cond (eqb (byte_at s at) 100) d (scalar_at s at)) (list_coded s (value_at p levels s) (value_coded levels s) (at + 1))
       (pick (eqb (byte_at s at) 100) d (scalar_at s at) (dictionary_coded s (value_at p levels s) (value_coded levels s) (at + 1) []) (scalar_coded s at))
 
-  payload_coded : (s : List ℕ) → Coded (payload_at p s)
-  unfolding payload_at
-  payload_coded s = go (value_at p largest_depth s 0) (value_coded largest_depth s 0)
-    where
-      go : (w : Walk) → Coded w → Coded (whole s w)
-      go (Ok end) c = pick (eqb end (length s)) (Ok end) (Err (fault Cause.Trailing end)) tt refl
-      go (Err f) c = c
+pub value_untrailed : (p : Profile) (levels : ℕ) (s : List ℕ) (at : ℕ) (f : Fault) → value_at p levels s at ≡ Err f → f.cause ≡ Cause.Trailing → ⊥
+value_untrailed p levels s at f e t = clash false (subst (λ (c : Cause). fits p c ≡ true) t (subst (Coded p) e (value_coded p levels s at))) refl
 
 pub faults_coded : FaultsCoded
-faults_coded p s f e = subst (Coded p) e (payload_coded p s)
+unfolding payload_at
+faults_coded p s f e = go (value_at p largest_depth s 0) (value_coded p largest_depth s 0) e
+  where
+    coded : (c : Cause) → fits p c ≡ true → is_fault_code p (cause_code c) ≡ true
+    coded c h = go (is_fault_code p (cause_code c)) refl h
+      where
+        go : (t : Bool) → is_fault_code p (cause_code c) ≡ t → t && not (eqb (cause_code c) 9) ≡ true → is_fault_code p (cause_code c) ≡ true
+        go true q h = q
+        go false q h = clash false h refl
+
+    trailing : (end : ℕ) (t : Bool) → cond t (Ok end) (Err (fault Cause.Trailing end)) ≡ Err f → is_fault_code p (cause_code f.cause) ≡ true
+    trailing end true e = let z : ◌≡◌ {A = ℕ} 0 1 = cc in absurd (omega arith)
+    trailing end false e = let i : fault Cause.Trailing end ≡ f = cc in subst (λ (g : Fault). is_fault_code p (cause_code g.cause) ≡ true) i refl
+
+    go : (w : Walk) → Coded p w → whole s w ≡ Err f → is_fault_code p (cause_code f.cause) ≡ true
+    go (Ok end) c e = trailing end (eqb end (length s)) e
+    go (Err g) c e = let i : g ≡ f = cc in subst (λ (g : Fault). is_fault_code p (cause_code g.cause) ≡ true) i (coded g.cause c)
+
+-- the cause with a number
+abbrev told : ℕ → Option Cause
+told n =
+    cond (eqb n 5) (Some Cause.Syntax)
+    (cond (eqb n 6) (Some Cause.Range)
+    (cond (eqb n 7) (Some Cause.Depth)
+    (cond (eqb n 8) (Some Cause.RepeatedKey)
+    (cond (eqb n 9) (Some Cause.Trailing)
+    (cond (eqb n 10) (Some Cause.IllFormedKey)
+    (cond (eqb n 11) (Some Cause.UnsortedKey)
+    None))))))
+
+pub fault_numbers_tell : FaultNumbersTell
+fault_numbers_tell c d e = sym (back c) ∙ ap told e ∙ back d
+  where
+    back : (c : Option Cause) → told (fault_number c) ≡ c
+    back None = refl
+    back (Some Cause.Syntax) = refl
+    back (Some Cause.Range) = refl
+    back (Some Cause.Depth) = refl
+    back (Some Cause.RepeatedKey) = refl
+    back (Some Cause.Trailing) = refl
+    back (Some Cause.IllFormedKey) = refl
+    back (Some Cause.UnsortedKey) = refl

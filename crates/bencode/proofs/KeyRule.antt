@@ -11,6 +11,7 @@ use native.Mathlib.Omega.{arith}
 use Rattle.octets.specs.Bytes.{same, less}
 use Rattle.bencode.specs.declared.profile.Profile.{Profile}
 use Rattle.bencode.specs.Utf8.{Utf8Text, is_text}
+use Rattle.bencode.specs.Fault.{fault_number}
 use Rattle.bencode.specs.Key.{is_used, is_above, order_fault, compared_fault, key_fault}
 use Rattle.bencode.specs.Demands.{KeysOnce, KeysRise, TenForNoText, EightForRepeated, ElevenForUnsorted}
 use Rattle.bencode.proofs.KeyText.{key_text_lem}
@@ -73,14 +74,14 @@ pub ten_for_no_text : TenForNoText
 unfolding key_fault
 ten_for_no_text p keys key = (λ e t. there (is_text key) ((key_text_lem key).1 t) (is_used key keys) (is_above key keys) p e, λ h. back (is_text key) refl h)
   where
-    there : (w : Bool) → w ≡ true → (t u : Bool) (q : Profile) → ◌≡◌ {A = Option Cause} (cond w (cond t (Some Cause.RepeatedKey) (order_fault q u)) (Some Cause.IllFormedKey)) (Some Cause.IllFormedKey) → ⊥
-    there true x true u q e = let z : ◌≡◌ {A = ℕ} 0 1 = cc in omega arith
-    there true x false u Profile.Loose e = let z : ◌≡◌ {A = ℕ} 0 1 = cc in omega arith
-    there true x false true Profile.Strict e = let z : ◌≡◌ {A = ℕ} 0 1 = cc in omega arith
-    there true x false false Profile.Strict e = let z : ◌≡◌ {A = ℕ} 0 1 = cc in omega arith
+    there : (w : Bool) → w ≡ true → (t u : Bool) (q : Profile) → fault_number (cond w (cond t (Some Cause.RepeatedKey) (order_fault q u)) (Some Cause.IllFormedKey)) ≡ 10 → ⊥
+    there true x true u q e = omega arith
+    there true x false u Profile.Loose e = omega arith
+    there true x false true Profile.Strict e = omega arith
+    there true x false false Profile.Strict e = omega arith
     there false x t u q e = clash false x refl
 
-    back : (w : Bool) → is_text key ≡ w → (Utf8Text key → ⊥) → cond w (compared_fault p keys key) (Some Cause.IllFormedKey) ≡ Some Cause.IllFormedKey
+    back : (w : Bool) → is_text key ≡ w → (Utf8Text key → ⊥) → fault_number (cond w (compared_fault p keys key) (Some Cause.IllFormedKey)) ≡ 10
     back true x h = absurd (h ((key_text_lem key).0 x))
     back false x h = refl
 
@@ -88,29 +89,29 @@ pub eight_for_repeated : EightForRepeated
 unfolding key_fault
 eight_for_repeated p keys key = (λ e. there (is_text key) refl (is_used key keys) refl (is_above key keys) p e, λ h. rw ((key_text_lem key).1 h.0, member_used key keys h.1) refl)
   where
-    there : (w : Bool) → is_text key ≡ w → (t : Bool) → is_used key keys ≡ t → (u : Bool) (q : Profile) → ◌≡◌ {A = Option Cause} (cond w (cond t (Some Cause.RepeatedKey) (order_fault q u)) (Some Cause.IllFormedKey)) (Some Cause.RepeatedKey) → Utf8Text key × Memᴰ key keys
+    there : (w : Bool) → is_text key ≡ w → (t : Bool) → is_used key keys ≡ t → (u : Bool) (q : Profile) → fault_number (cond w (cond t (Some Cause.RepeatedKey) (order_fault q u)) (Some Cause.IllFormedKey)) ≡ 8 → Utf8Text key × Memᴰ key keys
     there true x true y u q e = ((key_text_lem key).0 x, used_member key keys y)
-    there true x false y u Profile.Loose e = let z : ◌≡◌ {A = ℕ} 0 1 = cc in absurd (omega arith)
-    there true x false y true Profile.Strict e = let z : ◌≡◌ {A = ℕ} 0 1 = cc in absurd (omega arith)
-    there true x false y false Profile.Strict e = let z : ◌≡◌ {A = ℕ} 0 1 = cc in absurd (omega arith)
-    there false x t y u q e = let z : ◌≡◌ {A = ℕ} 0 1 = cc in absurd (omega arith)
+    there true x false y u Profile.Loose e = absurd (omega arith)
+    there true x false y true Profile.Strict e = absurd (omega arith)
+    there true x false y false Profile.Strict e = absurd (omega arith)
+    there false x t y u q e = absurd (omega arith)
 
 pub eleven_for_unsorted : ElevenForUnsorted
 unfolding key_fault
 eleven_for_unsorted p keys key = (λ e. there (is_text key) refl (is_used key keys) refl (is_above key keys) refl p e, λ h. back p h.0 (is_text key) ((key_text_lem key).1 h.1) (is_used key keys) refl h.2 (is_above key keys) refl h.3)
   where
-    there : (w : Bool) → is_text key ≡ w → (t : Bool) → is_used key keys ≡ t → (u : Bool) → is_above key keys ≡ u → (q : Profile) → ◌≡◌ {A = Option Cause} (cond w (cond t (Some Cause.RepeatedKey) (order_fault q u)) (Some Cause.IllFormedKey)) (Some Cause.UnsortedKey)
+    there : (w : Bool) → is_text key ≡ w → (t : Bool) → is_used key keys ≡ t → (u : Bool) → is_above key keys ≡ u → (q : Profile) → fault_number (cond w (cond t (Some Cause.RepeatedKey) (order_fault q u)) (Some Cause.IllFormedKey)) ≡ 11
         → (q ≡ Profile.Strict) × Utf8Text key × (Memᴰ key keys → ⊥) × (((k : List ℕ) → Memᴰ k keys → less k key ≡ true) → ⊥)
-    there true x true y u z q e = let z : ◌≡◌ {A = ℕ} 0 1 = cc in absurd (omega arith)
-    there true x false y u z Profile.Loose e = let z : ◌≡◌ {A = ℕ} 0 1 = cc in absurd (omega arith)
-    there true x false y true z Profile.Strict e = let z : ◌≡◌ {A = ℕ} 0 1 = cc in absurd (omega arith)
+    there true x true y u z q e = absurd (omega arith)
+    there true x false y u z Profile.Loose e = absurd (omega arith)
+    there true x false y true z Profile.Strict e = absurd (omega arith)
     there true x false y false z Profile.Strict e =
         (refl, (key_text_lem key).0 x, λ m. clash (is_used key keys) (member_used key keys m) y, λ h. clash (is_above key keys) (every_above key keys h) z)
-    there false x t y u z q e = let z : ◌≡◌ {A = ℕ} 0 1 = cc in absurd (omega arith)
+    there false x t y u z q e = absurd (omega arith)
 
     back : (q : Profile) → q ≡ Profile.Strict → (w : Bool) → w ≡ true → (t : Bool) → is_used key keys ≡ t → (Memᴰ key keys → ⊥) → (u : Bool) → is_above key keys ≡ u → (((k : List ℕ) → Memᴰ k keys → less k key ≡ true) → ⊥)
-        → ◌≡◌ {A = Option Cause} (cond w (cond t (Some Cause.RepeatedKey) (order_fault q u)) (Some Cause.IllFormedKey)) (Some Cause.UnsortedKey)
+        → fault_number (cond w (cond t (Some Cause.RepeatedKey) (order_fault q u)) (Some Cause.IllFormedKey)) ≡ 11
     back q i false x t y a u z b = clash false x refl
     back q i true x true y a u z b = absurd (a (used_member key keys y))
     back q i true x false y a true z b = absurd (b (above_every key keys z))
-    back q i true x false y a false z b = ap (λ (r : Profile). order_fault r false) i
+    back q i true x false y a false z b = ap (λ (r : Profile). fault_number (order_fault r false)) i

@@ -27,4 +27,4 @@ module _ (p : Profile) (s : List ℕ) (a : Walk) where
 
 pub same_payload : SamePayload
 unfolding loop_at payload_at
-same_payload p s endless = ap (whole s) (loop_lands p s _ _ 0 at_start (omega arith) (starts p s at_start.row at_start.level refl refl))
+same_payload endless p s = ap (whole s) (loop_lands p s _ _ 0 at_start (omega arith) (starts p s at_start.row at_start.level refl refl))

@@ -9,7 +9,7 @@ use Rattle.bencode.specs.Scalar.{scalar_at}
 use Rattle.bencode.specs.Loop.{repeat}
 use Rattle.bencode.specs.Utf8.{utf8, utf8_all, text_from}
 use Rattle.bencode.specs.Key.{is_used, is_above, key_fault}
-use Rattle.bencode.specs.Walk.{list_from, dictionary_from, value_at, payload_at}
+use Rattle.bencode.specs.Walk.{list_from, dictionary_from, value_at, payload_at, payload_code, payload_offset}
 use Rattle.bencode.specs.Tries.{tries, TextsTried, TextsEncoded, PlacesTried}
 
 pub texts_tried : TextsTried
@@ -21,5 +21,5 @@ unfolding utf8 utf8_all
 texts_encoded = (refl, refl, refl, refl)
 
 pub places_tried : PlacesTried
-unfolding ascii same less numeral_at digits string_at scalar_at repeat text_from is_used is_above key_fault list_from dictionary_from value_at payload_at
-places_tried = (refl, refl, refl)
+unfolding ascii same less numeral_at digits string_at scalar_at repeat text_from is_used is_above key_fault list_from dictionary_from value_at payload_at payload_code payload_offset
+places_tried = ((refl, refl), (refl, refl), (refl, refl))

@@ -22,7 +22,7 @@ use Rattle.bencode.specs.Entry.{entry_at}
 use Rattle.bencode.specs.Item.{item_at}
 use Rattle.bencode.specs.Field.{field_at, field_of}
 use Rattle.bencode.specs.Value.{Value, integer, string, list, dictionary, Values, Entries, encode_string, encode, encode_all, encode_entries, All, AllEntries, WellFormed, Found, found, missing, lookup, lookup_at}
-use Rattle.bencode.specs.Fault.{Walk, cause_code}
+use Rattle.bencode.specs.Fault.{Walk, cause_code, fault_number}
 use Rattle.bencode.specs.declared.fault.Cause.{Cause}
 
 -- demand 2, for payloads: the walk accepts exactly the encodings of well-formed values
@@ -51,17 +51,21 @@ KeysRise = (keys : List (List ℕ)) (key : List ℕ) → (key_fault Profile.Stri
 
 -- request 03: 10 is given to a key exactly where it is no text, whatever the profile and the earlier keys
 abbrev pub TenForNoText : Type 0
-TenForNoText = (p : Profile) (keys : List (List ℕ)) (key : List ℕ) → (key_fault p keys key ≡ Some Cause.IllFormedKey) ↔ (Utf8Text key → ⊥)
+TenForNoText = (p : Profile) (keys : List (List ℕ)) (key : List ℕ) → (fault_number (key_fault p keys key) ≡ 10) ↔ (Utf8Text key → ⊥)
 
 -- 8 is given to a key exactly where it is a text that is among the earlier ones, whatever the profile
 abbrev pub EightForRepeated : Type 0
-EightForRepeated = (p : Profile) (keys : List (List ℕ)) (key : List ℕ) → (key_fault p keys key ≡ Some Cause.RepeatedKey) ↔ (Utf8Text key × Memᴰ key keys)
+EightForRepeated = (p : Profile) (keys : List (List ℕ)) (key : List ℕ) → (fault_number (key_fault p keys key) ≡ 8) ↔ (Utf8Text key × Memᴰ key keys)
 
 -- request 06: 11 is given to a key exactly where the profile is strict and it is a text that is not among the earlier ones and not
 -- above all of them; so it comes after 10 and 8
 abbrev pub ElevenForUnsorted : Type 0
 ElevenForUnsorted = (p : Profile) (keys : List (List ℕ)) (key : List ℕ)
-    → (key_fault p keys key ≡ Some Cause.UnsortedKey) ↔ ((p ≡ Profile.Strict) × Utf8Text key × (Memᴰ key keys → ⊥) × (((k : List ℕ) → Memᴰ k keys → less k key ≡ true) → ⊥))
+    → (fault_number (key_fault p keys key) ≡ 11) ↔ ((p ≡ Profile.Strict) × Utf8Text key × (Memᴰ key keys → ⊥) × (((k : List ℕ) → Memᴰ k keys → less k key ≡ true) → ⊥))
+
+-- no two causes have one number, and none has 0: so the three above say for which cause each key is refused
+abbrev pub FaultNumbersTell : Type 0
+FaultNumbersTell = (c d : Option Cause) → fault_number c ≡ fault_number d → c ≡ d
 
 -- a payload's fault has a code of its profile, which is never 0
 abbrev pub FaultsCoded : Type 0
@@ -71,11 +75,15 @@ FaultsCoded = (p : Profile) (s : List ℕ) (f : Fault) → payload_at p s ≡ Er
 abbrev pub StrictIsLoose : Type 0
 StrictIsLoose = (s : List ℕ) → (payload_code Profile.Strict s ≡ 11 → ⊥) → payload_at Profile.Strict s ≡ payload_at Profile.Loose s
 
--- request 09, of any turn of a walk by one loop with a row of levels: the loop finds in every payload what the nested walk finds,
--- the end or the fault with its cause and offset, in either profile, in at most as many turns as there are bytes and one: so it does
--- not matter what the loop would answer after those. That the function `flat::payload` finds the same, its promise says
+-- request 09, of any turn of a walk by one loop with a row of levels, and of what the loop answers where the turns do not end in as
+-- many as there are bytes and one: the loop finds in every payload what the nested walk finds, the end or the fault with its cause
+-- and offset, in either profile
+abbrev pub SamePayloadWith : Walk → (Profile → List ℕ → ℕ → Levels → LoopStep Levels Walk) → Type 0
+SamePayloadWith endless step = (p : Profile) (s : List ℕ) → loop_at step endless p s ≡ payload_at p s
+
+-- whatever the loop answers there: so the turns end. That the function `flat::payload` finds the same, its promise says
 abbrev pub SamePayloadFor : (Profile → List ℕ → ℕ → Levels → LoopStep Levels Walk) → Type 0
-SamePayloadFor step = (p : Profile) (s : List ℕ) (endless : Walk) → loop_at step endless p s ≡ payload_at p s
+SamePayloadFor step = (endless : Walk) → SamePayloadWith endless step
 
 -- request 09, of our turn
 abbrev pub SamePayload : Type 0

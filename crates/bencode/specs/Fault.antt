@@ -1,5 +1,6 @@
--- To be believed. Faults of a payload, and their codes and offsets (document 01, 'What the reader says', 5 to 9; document 02, 10
--- by request 03, and 11, the strict profile's).
+-- 8, 10 and 11 are pinned as Key.antt says, and that no two causes have one number by `FaultNumbersTell`; the rest is to be believed.
+-- Faults of a payload, and their codes and offsets (document 01, 'What the reader says', 5 to 9; document 02, 10 by request 03, and
+-- 11, the strict profile's).
 -- Assumes nothing.
 use Rattle.std.specs.Prelude.{ℕ, Result, Ok, Err, Option, Some, None}
 use Rattle.bencode.specs.declared.fault.Fault.{Fault}
@@ -14,6 +15,11 @@ cause_code Cause.RepeatedKey = 8
 cause_code Cause.Trailing = 9
 cause_code Cause.IllFormedKey = 10
 cause_code Cause.UnsortedKey = 11
+
+-- the number of a cause, and 0 where there is none
+abbrev pub fault_number : Option Cause → ℕ
+fault_number None = 0
+fault_number (Some c) = cause_code c
 
 -- the fault with a cause at an offset
 abbrev pub fault : Cause → ℕ → Fault

@@ -1,13 +1,11 @@
 -- Statements that antt computes: bytes that are text and bytes that are none, about the borders of RFC 3629's table; its
 -- examples as they are encoded; where and when 10 is given (document 02, request 03).
 -- Assumes nothing.
-use Rattle.std.specs.Prelude.{ℕ, ◌≡◌, Bool, true, false, List, [], ◌∷◌, ◌++◌, map, Err}
+use Rattle.std.specs.Prelude.{ℕ, ◌≡◌, Bool, true, false, List, [], ◌∷◌, ◌++◌, map}
 use Rattle.bencode.specs.declared.profile.Profile.{Profile}
 use Rattle.octets.specs.Ascii.{ascii}
-use Rattle.bencode.specs.Fault.{fault}
 use Rattle.bencode.specs.Utf8.{is_text, utf8_all}
-use Rattle.bencode.specs.Walk.{payload_at}
-use Rattle.bencode.specs.declared.fault.Cause.{Cause}
+use Rattle.bencode.specs.Walk.{payload_code, payload_offset}
 
 -- bytes, and whether they are a text
 pub record Try : Type 0 where
@@ -57,9 +55,13 @@ TextsEncoded = (utf8_all (0x41 ∷ 0x2262 ∷ 0x391 ∷ 0x2E ∷ []) ≡ 0x41 �
     × (utf8_all (0x65E5 ∷ 0x672C ∷ 0x8A9E ∷ []) ≡ 0xE6 ∷ 0x97 ∷ 0xA5 ∷ 0xE6 ∷ 0x9C ∷ 0xAC ∷ 0xE8 ∷ 0xAA ∷ 0x9E ∷ [])
     × (utf8_all (0xFEFF ∷ 0x233B4 ∷ []) ≡ 0xEF ∷ 0xBB ∷ 0xBF ∷ 0xF0 ∷ 0xA3 ∷ 0x8E ∷ 0xB4 ∷ [])
 
+-- a payload is refused with a code and an offset
+abbrev RefusedAt : Profile → List ℕ → ℕ → ℕ → Type 0
+RefusedAt p s code at = (payload_code p s ≡ code) × (payload_offset p s ≡ at)
+
 -- `d1:` and FF is 10 at the key's first length digit, though no value follows; `d2:` and FF is cut, so 5 at the end; a key
 -- `a` and FF after `b` is 10 in the strict profile too, not 11
 abbrev pub PlacesTried : Type 0
-PlacesTried = (payload_at Profile.Loose (ascii "d1:" ++ (0xFF ∷ [])) ≡ Err (fault Cause.IllFormedKey 1))
-    × (payload_at Profile.Loose (ascii "d2:" ++ (0xFF ∷ [])) ≡ Err (fault Cause.Syntax 4))
-    × (payload_at Profile.Strict (ascii "d1:b0:2:a" ++ (0xFF ∷ [])) ≡ Err (fault Cause.IllFormedKey 6))
+PlacesTried = RefusedAt Profile.Loose (ascii "d1:" ++ (0xFF ∷ [])) 10 1
+    × RefusedAt Profile.Loose (ascii "d2:" ++ (0xFF ∷ [])) 5 4
+    × RefusedAt Profile.Strict (ascii "d1:b0:2:a" ++ (0xFF ∷ [])) 10 6

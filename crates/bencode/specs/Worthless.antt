@@ -1,13 +1,15 @@
 -- Statements: wrong builds fall by the demand itself (document 02, requests 03 and 09).
 -- Assumes nothing.
-use Rattle.std.specs.Prelude.{ℕ, ◌≡◌, Bool, true, cond, ◌&&◌, List, [], ◌∷◌, leb, ltb, length, replicate, Ok}
+use Rattle.std.specs.Prelude.{ℕ, ◌≡◌, Bool, true, cond, ◌&&◌, List, [], ◌∷◌, leb, ltb, length, replicate, Ok, Err, Result}
+use Rattle.bencode.specs.declared.fault.Fault.{Fault}
 use Rattle.bencode.specs.declared.profile.Profile.{Profile}
 use Rattle.bencode.specs.declared.tokens.Bracket.{Bracket}
 use Rattle.bencode.specs.Depth.{largest_depth}
 use Rattle.bencode.specs.Flat.{outside, Levels, at_start, turn}
 use Rattle.bencode.specs.Loop.{LoopStep, next, done, repeat_from}
 use Rattle.bencode.specs.Utf8.{is_text}
-use Rattle.bencode.specs.Demands.{KeyTextFor, SamePayloadFor}
+use Rattle.bencode.specs.Walk.{whole, payload_at}
+use Rattle.bencode.specs.Demands.{KeyTextFor, SamePayloadWith}
 use Rattle.bencode.specs.Fault.{Walk}
 
 -- a recogniser that differs from ours, be it on one key only
@@ -42,34 +44,60 @@ abbrev pub forgotten : Levels → Levels → Levels
 forgotten before after = record { row = replicate largest_depth outside; depth = after.depth; level = after.level; valued = after.valued }
 
 abbrev pub RowForgottenFalls : Type 0
-RowForgottenFalls = SamePayloadFor (altered forgotten) → ⊥
+RowForgottenFalls = (endless : Walk) → SamePayloadWith endless (altered forgotten) → ⊥
 
 -- a dictionary is taken for a list
 abbrev pub list_marked : Levels → Levels → Levels
 list_marked before after = record { row = after.row; depth = after.depth; level = record { bracket = Bracket.List; seen = after.level.seen }; valued = after.valued }
 
 abbrev pub DictionaryAsListFalls : Type 0
-DictionaryAsListFalls = SamePayloadFor (altered list_marked) → ⊥
+DictionaryAsListFalls = (endless : Walk) → SamePayloadWith endless (altered list_marked) → ⊥
 
 -- a level that closes stays the innermost, with its bracket and its keys
 abbrev pub level_left : Levels → Levels → Levels
 level_left before after = cond (ltb after.depth before.depth) (record { row = after.row; depth = after.depth; level = before.level; valued = after.valued }) after
 
 abbrev pub InnerKeysKeptFalls : Type 0
-InnerKeysKeptFalls = SamePayloadFor (altered level_left) → ⊥
+InnerKeysKeptFalls = (endless : Walk) → SamePayloadWith endless (altered level_left) → ⊥
 
 -- a level that opens is not counted
 abbrev pub uncounted : Levels → Levels → Levels
 uncounted before after = cond (ltb before.depth after.depth) (record { row = after.row; depth = before.depth; level = after.level; valued = after.valued }) after
 
 abbrev pub LevelUncountedFalls : Type 0
-LevelUncountedFalls = SamePayloadFor (altered uncounted) → ⊥
+LevelUncountedFalls = (endless : Walk) → SamePayloadWith endless (altered uncounted) → ⊥
+
+-- no payload comes to `Ok 0`
+abbrev pub NoneEndsAtZero : Type 0
+NoneEndsAtZero = (p : Profile) (s : List ℕ) → whole s (Ok 0) ≡ payload_at p s → ⊥
 
 -- turns that do not end in as many as there are bytes and one, be it on one payload in one profile: the loop then answers what it
--- is given for that
+-- is given for that, here `Ok 0`
 abbrev pub EndlessFalls : Type 0
-EndlessFalls = (step : Profile → List ℕ → ℕ → Levels → LoopStep Levels Walk) (p : Profile) (s : List ℕ) → ((answer : Walk) → repeat_from s (step p s) answer 0 at_start ≡ answer) → SamePayloadFor step → ⊥
+EndlessFalls = (step : Profile → List ℕ → ℕ → Levels → LoopStep Levels Walk) (p : Profile) (s : List ℕ) → ((answer : Walk) → repeat_from s (step p s) answer 0 at_start ≡ answer) → SamePayloadWith (Ok 0) step → ⊥
+
+-- a walk whose fault is read as one of another type
+abbrev pub read_walk : {F : Type 0} → (Fault → F) → Walk → Result ℕ F
+read_walk read (Ok end) = Ok end
+read_walk read (Err f) = Err (read f)
+
+-- the end of a payload after a walk with faults of that type
+abbrev pub read_whole : {F : Type 0} → (Fault → F) → List ℕ → Result ℕ F → Result ℕ F
+read_whole read s (Ok end) = read_walk read (whole s (Ok end))
+read_whole read s (Err f) = Err f
+
+-- `SamePayloadWith` of a loop with such faults
+abbrev pub SamePayloadRead : {F : Type 0} → (Fault → F) → Result ℕ F → (Profile → List ℕ → ℕ → Levels → LoopStep Levels (Result ℕ F)) → Type 0
+SamePayloadRead read endless step = (p : Profile) (s : List ℕ) → read_whole read s (repeat_from s (step p s) endless 0 at_start) ≡ read_walk read (payload_at p s)
+
+-- the same of a loop with faults of any type, as which ours are read, and of any answer that the payload does not come to. With code
+-- and offset for a fault, a fault of code 0 is such an answer (`FaultsCoded`)
+abbrev pub EndlessReadFalls : Type 1
+EndlessReadFalls = (F : Type 0) (read : Fault → F) (step : Profile → List ℕ → ℕ → Levels → LoopStep Levels (Result ℕ F)) (endless : Result ℕ F) (p : Profile) (s : List ℕ)
+    → ((answer : Result ℕ F) → repeat_from s (step p s) answer 0 at_start ≡ answer)
+    → (read_whole read s endless ≡ read_walk read (payload_at p s) → ⊥)
+    → SamePayloadRead read endless step → ⊥
 
 -- a walk that accepts everything
 abbrev pub EverythingFalls : Type 0
-EverythingFalls = SamePayloadFor (λ p s at x. done (Ok (length s))) → ⊥
+EverythingFalls = (endless : Walk) → SamePayloadWith endless (λ p s at x. done (Ok (length s))) → ⊥
