@@ -46,6 +46,8 @@ pub fn value(
 
 // The offset after the list whose values start at an offset. Only a value that nests, or a fault, needs a call of `value`.
 // Stays: a loop, since where a value starts is known only after the one before it, which may be a fault.
+// In line in `value`: as a call, a level of lists takes more than half as much stack and time again.
+#[inline(always)]
 #[cycle(dictionary_list_value)]
 pub fn list(
     s: &[u8],

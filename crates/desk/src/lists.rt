@@ -1,7 +1,7 @@
 // The watch list: which IDs it has, its first fault, and which of them a start or stop lists.
-ghost use Rattle.std.specs.Prelude.{◌≡◌, [], ◌≤◌, length};
+ghost use Rattle.std.specs.Prelude.{◌≡◌, []};
 ghost use Rattle.desk.specs.Codes.{opening_check_code};
-ghost use Rattle.desk.specs.Watch.{most_watched, is_id, has, place, list_fault, unused, padded, picked};
+ghost use Rattle.desk.specs.Watch.{is_id, has, place, list_fault, unused, padded, picked};
 
 use super::done::OpeningRefusal;
 use super::watch::{PLACES, Watch};
@@ -76,10 +76,10 @@ pub fn are_unused(places: &[Watch]) -> bool
 
 // The desk's places: the records, and empty places after them.
 pub fn padded(list: &[Watch]) -> [Watch; PLACES]
-    requires { length list.now ≤ most_watched }
     ensures { result ≡ padded list.now }
 {
+    let n = list.len().min(PLACES);
     let mut places = [Watch::EMPTY; PLACES];
-    places[..list.len()].copy_from_slice(list);
+    places[..n].copy_from_slice(&list[..n]);
     places
 }

@@ -19,9 +19,13 @@ pub fn put_bytes(out: &mut [u8], at: usize, src: &[u8]) -> usize
     if lacks_room(out.len(), at, src.len()) {
         return at;
     }
-    let end = at + src.len();
-    out[at..end].copy_from_slice(src);
-    end
+    // Stays: a loop, since `copy_from_slice` would need `memmove` where the library is linked.
+    let mut o = at;
+    for b in src {
+        out[o] = *b;
+        o += 1;
+    }
+    o
 }
 
 // Puts a number in decimal at an offset, and answers the offset after it.

@@ -1,12 +1,13 @@
 -- The desk's places: how a list of records lies in them.
 -- Assumes nothing.
-use mathlib.Core.Path.{◌≡◌, refl, sym, ap}
-use Prim.Native.Nat.{ℕ, zero, suc, ◌≤◌}
+use mathlib.Core.Path.{◌≡◌, refl, sym, ap, ◌∙◌}
+use Prim.Native.Nat.{ℕ, zero, suc, ◌≤◌, min}
 use native.Mathlib.Omega.{arith}
-use native.Mathlib.Nat.{not-suc-le-zero, le_of_suc-le-suc}
+use native.Mathlib.Nat.{not-suc-le-zero, le_of_suc-le-suc, suc-min-suc, zero-min}
 use mathlib.Core.Bool.{true}
 use mathlib.Core.List.{List, [], ◌∷◌, ◌++◌}
 use lib.ListN.{length, take, drop, replicate}
+use lib.Seq.{length-take-le}
 use Rattle.desk.specs.Watch.{empty, places, unused}
 use Rattle.desk.specs.declared.watch.Watch.{Watch}
 
@@ -22,6 +23,19 @@ unfolding places
 places_after n [] h = sym (places_none n)
 places_after zero (w ∷ ws) h = absurd (not-suc-le-zero h)
 places_after (suc n) (w ∷ ws) h = ap (λ (k : List Watch). w ∷ k) (places_after n ws (le_of_suc-le-suc h))
+
+-- no more records than places count
+pub places_min : (n : ℕ) (l : List Watch) → places n (take (min (length l) n) l) ≡ places n l
+unfolding places
+places_min zero l = refl
+places_min (suc n) [] = rw zero-min
+places_min (suc n) (w ∷ l) = rw suc-min-suc (ap (λ (k : List Watch). w ∷ k) (places_min n l))
+
+-- the records that there are places for, and what is left of as many empty places
+pub places_cut : (n k : ℕ) (l : List Watch) → k ≡ min (length l) n → take k l ++ drop k (replicate n empty) ≡ places n l
+places_cut n k l e =
+    let long : length (take k l) ≡ k = length-take-le k l (omega (arith, e)) in
+    ap (λ i. take k l ++ drop i (replicate n empty)) (sym long) ∙ places_after n (take k l) (omega (arith, long, e)) ∙ ap (λ i. places n (take i l)) e ∙ places_min n l
 
 -- the records are read back from the places
 pub take_places : (n : ℕ) (ws : List Watch) → length ws ≤ n → take (length ws) (places n ws) ≡ ws

@@ -3,7 +3,7 @@
 use mathlib.Core.Path.{◌≡◌, refl, ap, sym, ◌∙◌}
 use mathlib.Core.List.{List, [], ◌∷◌, ◌++◌, append_assoc, append-nil}
 use mathlib.Core.Logic.{◌⊎◌, inl, inr, ⊎_elim}
-use Prim.Native.Nat.{ℕ, zero, suc, ◌+◌, ◌*◌, ◌/◌, ◌%◌, ◌^◌, ◌≤◌, ◌<◌, zero-le, suc-le-suc}
+use Prim.Native.Nat.{ℕ, zero, suc, ◌+◌, ◌-◌, ◌*◌, ◌/◌, ◌%◌, ◌^◌, ◌≤◌, ◌<◌, zero-le, suc-le-suc}
 use native.Mathlib.Nat.{mul_assoc, add-mul, mul_left_comm, pow-succ', one-le-pow, div-add-mod', mod-lt, div-lt_iff_lt-mul, le-div_iff_mul-le, pow-le-pow_right}
 use native.Mathlib.Omega.{arith}
 use native.Mathlib.Numerals.{add-one}
@@ -26,6 +26,11 @@ decimal_next10 a d h g = let e : 10 * a + d ≡ a * 10 + d = omega arith in ap d
 unfoldable pub places : ℕ → ℕ → List ℕ
 places zero n = []
 places (suc k) n = (48 + n / 10 ^ k) ∷ places k (n % 10 ^ k)
+
+-- a power of ten is ten times the one before
+pub pow_down : (k : ℕ) → 0 < k → 10 ^ k ≡ 10 * 10 ^ (k - 1)
+pow_down zero h = elim h [ ]
+pow_down (suc k) h = let e : suc k - 1 ≡ k = omega arith in rw e (pow-succ' 10 k)
 
 pub length_places : (k n : ℕ) → length (places k n) ≡ k
 unfolding places

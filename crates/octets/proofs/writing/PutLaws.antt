@@ -1,14 +1,14 @@
 -- Laws of storing into a buffer: parts stored one after the other, by what is left of them.
 -- Assumes nothing.
 use mathlib.Core.Path.{◌≡◌, refl, ap, sym, ◌∙◌}
-use mathlib.Core.List.{List, [], ◌∷◌, ◌++◌, append_assoc, flatten}
-use Prim.Native.Nat.{ℕ, suc, ◌+◌, ◌-◌, ◌≤◌, ◌<◌}
+use mathlib.Core.List.{List, [], ◌∷◌, ◌++◌, flatten}
+use Prim.Native.Nat.{ℕ, suc, ◌+◌, ◌≤◌, ◌<◌}
 use native.Mathlib.Nat.{add-zero, zero-add}
+use native.Mathlib.Numerals.{add-one}
 use native.Mathlib.Omega.{arith}
 use borrow.Author.Tests.{le-leb, lt-leb}
-use lib.ListN.{length, length-append, take, drop, set}
-use lib.Seq.{sets, sets-eq, length-sets, drop-drop}
-use borrow.Rule.Slice.PartMut.{put_mid, post_of}
+use lib.ListN.{length, length-append, drop, get_or, set}
+use lib.Seq.{sets, sets-eq, length-sets, drop-cons}
 use Rattle.octets.specs.Put.{Wrote, Put}
 
 -- two runs of stores, one after the other, are one run
@@ -66,15 +66,10 @@ finish p = record { stored = p.stores; ended = omega (arith, p.ends) }
 pub wrote_front : {a b xs : List ℕ} {j : ℕ} → length xs ≤ length a → Wrote a 0 xs b j → b ≡ xs ++ drop (length xs) a
 wrote_front {a} {b} {xs} h p = p.stored ∙ sets-eq xs a 0 (rw (zero-add (length xs)) h) ∙ rw (zero-add (length xs))
 
--- bytes copied over a part of the buffer
-pub wrote_part : (a x : List ℕ) (i : ℕ) → i + length x ≤ length a → Wrote a i x (put_mid i (i + length x - i) a x) (i + length x)
-wrote_part a x i h =
-    let n : i + (i + length x - i) ≡ i + length x = omega arith in
-    let tail : post_of i (i + length x - i) a ≡ drop (i + length x) a = drop-drop (i + length x - i) i a ∙ ap (λ k. drop k a) n in
-    record {
-      stored = ap (λ l. take i a ++ (x ++ l)) tail ∙ sym (append_assoc (take i a) x (drop (i + length x) a)) ∙ sym (sets-eq x a i h);
-      ended = refl;
-    }
+-- a byte copied, of those that are left
+pub put_byte : (out : List ℕ) (o : ℕ) (s : List ℕ) (j : ℕ) → j < length s
+    → sets (set out o (get_or s j 0)) (o + 1) (drop (j + 1) s) ≡ sets out o (drop j s)
+put_byte out o s j h = rw (add-one o, add-one j, drop-cons s j 0)
 
 -- one write after another, joined
 pub wrote_then : {a b c xs ys : List ℕ} {i j k : ℕ} → Wrote a i xs b j → Wrote b j ys c k → Wrote a i (xs ++ ys) c k
