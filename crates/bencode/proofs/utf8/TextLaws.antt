@@ -36,6 +36,9 @@ module _ (b : ℕ) where
   pub none_high : 0xF4 < b → following b ≡ 4
   none_high l = rw (lt-leb b 0 (omega arith), lt-leb b 0x7F (omega arith), lt-leb b 0xC1 (omega arith), lt-leb b 0xDF (omega arith), lt-leb b 0xEF (omega arith), lt-leb b 0xF4 l) refl
 
+  -- what follows a first byte, row by row
+  pub ruleset first_bytes = (none_zero, one_byte, none_low, two_bytes, three_bytes, four_bytes, none_high)
+
 -- between two characters the range does not matter
 pub between : (l h m k : ℕ) (s : List ℕ) → text_from 0 l h s ≡ text_from 0 m k s
 unfolding text_from
