@@ -22,4 +22,4 @@ sorts_tried = refl
 
 pub answers_tried : AnswersTried
 unfolding ascii same less numeral_at digits string_at scalar_at repeat text_from is_used is_above key_fault list_from dictionary_from value_at payload_at sort_answer
-answers_tried = (refl, refl, refl)
+answers_tried = (refl, (refl, refl, refl), (refl, refl, refl))

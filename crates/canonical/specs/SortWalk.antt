@@ -14,6 +14,7 @@ use Rattle.bencode.specs.Strings.{string_at, text_of}
 use Rattle.bencode.specs.Skip.{skip_value}
 use Rattle.bencode.specs.Value.{Value, encode, WellFormed}
 use Rattle.canonical.specs.declared.select.Pick.{Pick}
+use Rattle.canonical.specs.declared.select.Place.{Place}
 use Rattle.canonical.specs.Order.{sorted}
 
 -- ---- what has been written of a dictionary
@@ -40,10 +41,16 @@ key_of s p = slice s p.start p.end
 abbrev pub Stands : List ℕ → Pick → Type 0
 Stands s p = (p.at ≤ length s) × (p.start ≤ p.end) × (p.end ≤ length s)
 
--- a step of the walk over the entries: none where no key stands; else the entry at the offset, and the offset after it
+-- where the next entry is looked for: at an offset, or past the value there
+abbrev pub entry_from : List ℕ → Place → ℕ
+entry_from s (Place.Entry at) = at
+entry_from s (Place.Value at) = skip_value s at
+
+-- a step of the walk over the entries: none where no key stands; else the entry at the offset, whose key starts no earlier, and the
+-- offset after it
 abbrev pub EntryStep : List ℕ → ℕ → Option Pick → ℕ → Type 0
 EntryStep s at None after = (f : Fault) × (string_at s at ≡ Err f)
-EntryStep s at (Some p) after = (string_at s at ≡ Ok (text_of p.start p.end)) × (p.at ≡ at) × (after ≡ skip_value s p.end) × Stands s p
+EntryStep s at (Some p) after = (string_at s at ≡ Ok (text_of p.start p.end)) × (p.at ≡ at) × (after ≡ skip_value s p.end) × (p.at ≤ p.start) × Stands s p
 
 -- ---- an entry that was picked, if one was
 -- what has been written, where it was the last

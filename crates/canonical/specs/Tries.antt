@@ -1,11 +1,11 @@
 -- Statements, by computing: payloads and what the sorter writes for them, and its answers (document 02, request 06).
 -- Assumes nothing.
-use Rattle.std.specs.Prelude.{◌≡◌, List, [], ◌∷◌, Ok, Err, map}
+use Rattle.std.specs.Prelude.{ℕ, ◌≡◌, List, [], ◌∷◌, Result, Ok, Err, map}
 use Prim.Native.String.{String}
 use Rattle.octets.specs.Ascii.{ascii}
 use Rattle.bencode.specs.Fault.{fault}
 use Rattle.canonical.specs.declared.sorter.SortRefusal.{SortRefusal}
-use Rattle.canonical.specs.Answer.{sort_answer}
+use Rattle.canonical.specs.Answer.{sort_answer, sort_code, sort_offset}
 use Rattle.canonical.specs.SortWalk.{sorted_payload}
 use Rattle.bencode.specs.declared.fault.Cause.{Cause}
 
@@ -32,8 +32,12 @@ tries =
 abbrev pub SortsTried : Type 0
 SortsTried = map (λ t. sorted_payload (ascii t.payload)) tries ≡ map (λ t. ascii t.written) tries
 
+-- an answer is a refusal, with its number and its offset
+abbrev pub Refuses : Result ℕ SortRefusal → SortRefusal → ℕ → ℕ → Type 0
+Refuses answer r code offset = (answer ≡ Err r) × (sort_code answer ≡ code) × (sort_offset answer ≡ offset)
+
 -- a payload with as many bytes lent as it has; with one less, 44; where it has a fault, that comes before 44
 abbrev pub AnswersTried : Type 0
 AnswersTried = (sort_answer 12 (ascii "d1:b0:1:a0:e") ≡ Ok 12)
-    × (sort_answer 11 (ascii "d1:b0:1:a0:e") ≡ Err SortRefusal.NoRoom)
-    × (sort_answer 0 (ascii "d1:a0:1:a0:e") ≡ Err (SortRefusal.Payload (fault Cause.RepeatedKey 6)))
+    × Refuses (sort_answer 11 (ascii "d1:b0:1:a0:e")) SortRefusal.NoRoom 44 0
+    × Refuses (sort_answer 0 (ascii "d1:a0:1:a0:e")) (SortRefusal.Payload (fault Cause.RepeatedKey 6)) 8 6

@@ -7,14 +7,13 @@ use mathlib.Core.List.{List}
 use native.Mathlib.Omega.{arith}
 use lib.ListN.{length}
 use Rattle.ipc.specs.Keys.{Listed, is_written}
-use Rattle.ipc.specs.Writer.{buffer_after, frame_of, message_fault, write_answer, Leaves}
+use Rattle.ipc.specs.Writer.{written_code, buffer_after, frame_of, message_fault, write_answer, Leaves}
 use Rattle.ipc.proofs.listed.KeyLaws.{listed_past}
 use Rattle.c_api.specs.declared.written.WriteAnswer.{WriteAnswer}
 use Rattle.c_api.specs.Written.{written_numbers, WrittenAs}
 use Rattle.c_api.specs.Offered.{Offered, unknown_refusal, offered_answer, offered_payload}
 use Rattle.ipc.specs.declared.writer.WriteRefusal.{WriteRefusal}
 use Rattle.std.specs.Prelude.{Result, Err, None, Some}
-use Rattle.ipc.specs.declared.writer.WriteRefusal.{WriteRefusal}
 
 -- what a writer did, by numbers
 pub leaves_numbers : {answer w : Result ℕ WriteRefusal} {payload before after : List ℕ} {r : WriteAnswer} → Leaves answer payload before w after → r ≡ written_numbers w → WrittenAs answer payload before r after
@@ -38,10 +37,11 @@ unwritten n h =
     let past : 20 ≤ n - 1 = omega (arith, h) in
     ap (λ (x : Listed). x.written) (listed_past n some past)
 
-pub key_refused : (n : ℕ) → 255 < n → (value : Offered) (s : List ℕ) (tag room : ℕ) → offered_answer n value s tag room ≡ Err WriteRefusal.Key
+-- so it is refused, by 40
+pub key_refused : (n : ℕ) → 255 < n → (value : Offered) (s : List ℕ) (tag room : ℕ) → (offered_answer n value s tag room ≡ Err WriteRefusal.Key) × (written_code (offered_answer n value s tag room) ≡ 40)
 unfolding write_answer message_fault unknown_refusal
-key_refused n h (Some given) s tag room = rw (unwritten n h) refl
-key_refused n h None s tag room = rw (unwritten n h) refl
+key_refused n h (Some given) s tag room = (rw (unwritten n h) refl, rw (unwritten n h) refl)
+key_refused n h None s tag room = (rw (unwritten n h) refl, rw (unwritten n h) refl)
 
 -- what is done with a value is done with what is equal to it
 pub leaves_as : (key tag : ℕ) (s before after : List ℕ) (w : Result ℕ WriteRefusal) (other : Offered) {value : Offered} → value ≡ other

@@ -16,7 +16,8 @@ use Rattle.bencode.proofs.loops.LoopLaws.{repeat_step}
 use Rattle.bencode.proofs.walking.Ends.{string_whole_inv}
 use Rattle.bencode.proofs.lookup.SkipLaws.{skip_range}
 use Rattle.canonical.specs.declared.select.Pick.{Pick}
-use Rattle.canonical.specs.SortWalk.{Bound, up_to, is_past, entry_at, key_of, EntryStep, rise_text, rise_step, rises_at, preferred_at, least_text, least_step, least_at}
+use Rattle.canonical.specs.declared.select.Place.{Place}
+use Rattle.canonical.specs.SortWalk.{Bound, up_to, is_past, entry_at, key_of, entry_from, EntryStep, rise_text, rise_step, rises_at, preferred_at, least_text, least_step, least_at}
 use Rattle.bencode.specs.declared.fault.Fault.{Fault}
 
 pub entry_past : (s : List ℕ) (at begin stop to : ℕ) → string_at s at ≡ Ok (text_of begin stop) → skip_value s stop ≡ to → Past s at to
@@ -53,8 +54,8 @@ least_step_lem s b at best = repeat_step s (least_step s b) (least_onward s b) (
 
 -- ---- one law for each step of the walk over the entries
 -- the step of a walk over the payload itself
-pub step_of : {s t : List ℕ} (at after : ℕ) (o : Option Pick) → t ≡ s → EntryStep t at o after → EntryStep s at o after
-step_of at after o e h = subst (λ (l : List ℕ). EntryStep l at o after) e h
+pub step_of : {s t : List ℕ} (at after : Place) (o : Option Pick) → t ≡ s → EntryStep t (entry_from t at) o (entry_from t after) → EntryStep s (entry_from s at) o (entry_from s after)
+step_of at after o e h = subst (λ (l : List ℕ). EntryStep l (entry_from l at) o (entry_from l after)) e h
 
 module _ (s : List ℕ) (at : ℕ) (b : Bound) (after : ℕ) where
   pub rise_end : EntryStep s at None after → true ≡ rises_at s at b

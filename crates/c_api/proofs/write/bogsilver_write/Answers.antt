@@ -12,7 +12,7 @@ use Rattle.c_api.proofs.write.bogsilver_write.Goals as goal
 pub returns-then-key-gt255 : goal.returns-then-key-gt255
 returns-then-key-gt255 c =
     let a = c.args in
-    refused_numbers _ _ _ WriteRefusal.Key (key_refused a.key c.if-key-gt255.true (offered a.kind a.integer) a.s.now a.tag (length a.out.now)) c.write_answer_of.ensures
+    refused_numbers _ _ _ WriteRefusal.Key (key_refused a.key c.if-key-gt255.true (offered a.kind a.integer) a.s.now a.tag (length a.out.now)).0 c.write_answer_of.ensures
 
 pub returns : goal.returns
 returns c =
