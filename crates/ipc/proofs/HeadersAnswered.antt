@@ -1,41 +1,23 @@
 -- A fault of the header, or of the length that it says, is the reader's answer; else the length is within the limit.
 -- Assumes nothing.
-use Prim.{Dec, yes, no}
-use Prim.Native.Nat.{ℕ, zero, suc, ◌+◌, ◌*◌, ◌≤◌, ◌<◌}
+use Prim.Native.Nat.{ℕ, ◌≤◌}
 use mathlib.Core.Path.{◌≡◌, refl}
 use mathlib.Core.Logic.{◌↔◌}
 use mathlib.Core.Bool.{Bool, true, false, cond}
-use mathlib.Core.List.{List, [], ◌∷◌}
+use mathlib.Core.List.{List}
 use native.Mathlib.Omega.{arith}
-use native.Mathlib.Decide.{dec_lt}
 use borrow.Author.Tests.{ltb-false, le-ltb}
 use lib.Dec.{ltb}
 use Rattle.std.specs.Prelude.{Result, Ok, Err}
 use Rattle.bencode.specs.declared.profile.Profile.{Profile}
 use Rattle.ipc.specs.declared.reading.Refusal.{Refusal}
 use Rattle.ipc.specs.Answer.{refused, answer_of}
-use Rattle.ipc.specs.Header.{largest_payload, protocol_payload, hex_value, header_in, read_header, header_code, header_offset, sized, length_code}
+use Rattle.ipc.specs.Header.{largest_payload, protocol_payload, read_header, HeaderFound, number, short, no_digit, header_code, header_offset, sized, length_code}
 use Rattle.ipc.specs.Reader.{by_size, by_header, read_frame}
-use Rattle.ipc.proofs.headers.HeaderLaws.{in_some, in_none}
+use Rattle.ipc.proofs.headers.HeaderLaws.{header_found}
 use Rattle.ipc.specs.Demands.{HeaderAnswered, HeadersAnswered}
 
--- what reading a header may find
-data Found : Result ℕ Refusal → Type 0 where
-  number : (n : ℕ) → Found (Ok n)
-  no_digit : (at : ℕ) → Found (Err (Refusal.NoDigit at))
-  short : Found (Err Refusal.Incomplete)
-
-found_in : (k i v : ℕ) (s : List ℕ) → Found (header_in k i v s)
-unfolding header_in
-found_in zero i v s = number v
-found_in (suc k) i v [] = short
-found_in (suc k) i v (c ∷ cs) = go (dec_lt (hex_value c) 16) (found_in k (i + 1) (16 * v + hex_value c) cs)
-  where
-    go : Dec (hex_value c < 16) → Found (header_in k (i + 1) (16 * v + hex_value c) cs) → Found (header_in (suc k) i v (c ∷ cs))
-    go (yes h) found = rw (in_some k i v c cs h) found
-    go (no h) _ = rw (in_none k i v c cs (omega arith)) (no_digit i)
-
-by_header_lem : (s : List ℕ) (h : Result ℕ Refusal) → Found h → (header_code h ≡ 0 → ⊥) → answer_of (by_header Profile.Loose s h) ≡ refused (header_code h) (header_offset h)
+by_header_lem : (s : List ℕ) (h : Result ℕ Refusal) → HeaderFound h → (header_code h ≡ 0 → ⊥) → answer_of (by_header Profile.Loose s h) ≡ refused (header_code h) (header_offset h)
 by_header_lem s _ (number n) k = absurd (k refl)
 by_header_lem s _ (no_digit at) k = refl
 by_header_lem s _ short k = refl
@@ -49,15 +31,15 @@ by_length s n k = go (ltb protocol_payload n) (ltb largest_payload n) k
     go false true k = refl
     go false false k = absurd (k refl)
 
-says_length : (h : Result ℕ Refusal) → Found h → (header_code h ≡ 0) ↔ ((n : ℕ) × (h ≡ Ok n))
+says_length : (h : Result ℕ Refusal) → HeaderFound h → (header_code h ≡ 0) ↔ ((n : ℕ) × (h ≡ Ok n))
 says_length h found = (there h found, λ p. rw p.1 refl)
   where
-    there : (h : Result ℕ Refusal) → Found h → header_code h ≡ 0 → (n : ℕ) × (h ≡ Ok n)
+    there : (h : Result ℕ Refusal) → HeaderFound h → header_code h ≡ 0 → (n : ℕ) × (h ≡ Ok n)
     there _ (number n) k = (n, refl)
     there _ (no_digit at) k = absurd (omega arith)
     there _ short k = absurd (omega arith)
 
-no_place : (h : Result ℕ Refusal) → Found h → header_code h ≡ 0 → header_offset h ≡ 0
+no_place : (h : Result ℕ Refusal) → HeaderFound h → header_code h ≡ 0 → header_offset h ≡ 0
 no_place _ (number n) k = refl
 no_place _ (no_digit at) k = absurd (omega arith)
 no_place _ short k = refl
@@ -71,9 +53,9 @@ within_limit n = (λ k. go (ltb protocol_payload n) (ltb largest_payload n) refl
     go false false e k = ltb-false largest_payload n e
 
 one_header : (s : List ℕ) → HeaderAnswered s
-unfolding read_frame read_header
+unfolding read_frame
 one_header s =
-    let found = found_in 8 0 0 s in
+    let found = header_found s in
     record {
       fault = by_header_lem s (read_header s) found;
       says = says_length (read_header s) found;

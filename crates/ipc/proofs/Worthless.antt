@@ -92,17 +92,17 @@ front_consumed p rest a small code kind e =
     omega (arith, frame_length p)
 
 pub invented_count_falls : InventedCountFalls
-invented_count_falls w key tag room n given s payload fits small left counted wrong reads =
+invented_count_falls E w key tag room n given s payload fits small left counted wrong reads =
     let r = reads key tag room n given s [] fits counted in
     wrong (front_consumed payload [] (accepted n key tag r.0) small refl refl (ap (λ (f : List ℕ). read_frame (f ++ [])) (sym left) ∙ r.1))
 
 -- the accepted frame is written again, with the count that it was read with
-port_written : (w : Writer) → WritesBackFor w → w.answer 14 (Given.Integer (pos 65535)) [] 0 23 ≡ Ok 23
+port_written : {E : Type 0} (w : Writer E) → WritesBackFor w → w.answer 14 (Given.Integer (pos 65535)) [] 0 23 ≡ Ok 23
 unfolding is_written class_of listed
 port_written w back = (back port_frame port_answer 23 port_read refl refl refl (λ e. let z : ◌≡◌ {A = ℕ} 0 1 = cc in omega arith) (omega arith)).0
 
 pub refusing_writer_falls : RefusingWriterFalls
-refusing_writer_falls w refuses back = refuses 14 0 23 23 (Given.Integer (pos 65535)) [] (port_written w back)
+refusing_writer_falls E w refuses back = refuses 14 0 23 23 (Given.Integer (pos 65535)) [] (port_written w back)
 
 pub one_more_falls : OneMoreFalls
 one_more_falls reads =

@@ -17,7 +17,7 @@ use Rattle.ipc.specs.Reader.{read_frame_by, read_frame}
 use Rattle.ipc.specs.Hex.{upper_header}
 use Rattle.ipc.specs.Keys.{class_of, is_written}
 use Rattle.ipc.specs.Meaning.{is_id_value, every, meaning}
-use Rattle.ipc.specs.Writer.{written_code, written_count, is_id_list, payload_of, frame_of, write_answer, Leaves}
+use Rattle.ipc.specs.Writer.{code_by, written_count, is_id_list, payload_of, frame_of, write_answer, LeavesBy, Leaves}
 use Rattle.ipc.specs.HandshakeWriter.{handshake_payload, handshake_written}
 use Rattle.ipc.specs.declared.writer.WriteRefusal.{WriteRefusal}
 use Rattle.bencode.specs.Fault.{cause_code}
@@ -167,21 +167,23 @@ Named class frame Given.Nothing s c = c ≡ nothing
 Named class frame (Given.Integer z) s c = c ≡ integer z
 Named class frame Given.Bytes s c = (at : ℕ) × (c ≡ bytes_named class at (length s)) × (slice frame at (at + length s) ≡ s)
 
--- demand 1: a refusal has count 0 and leaves the lent buffer as it was
-abbrev pub RefusalKeeps : Type 0
-RefusalKeeps = (answer r : Result ℕ WriteRefusal) (payload before after : List ℕ) → Leaves answer payload before r after → (written_code r ≡ 0 → ⊥) → (written_count r ≡ 0) × (after ≡ before)
+-- demand 1: a refusal, by whatever code, has count 0 and leaves the lent buffer as it was
+abbrev pub RefusalKeeps : Type 1
+RefusalKeeps = (E : Type 0) (number : E → ℕ) (answer r : Result ℕ E) (payload before after : List ℕ) → LeavesBy number answer payload before r after
+    → (code_by number r ≡ 0 → ⊥) → (written_count r ≡ 0) × (after ≡ before)
 
--- a writer: what it answers to a key, a value, the bytes beside it and a tag, in a room, and the frame that it leaves
-pub record Writer : Type 0 where
-  pub answer : ℕ → Given → List ℕ → ℕ → ℕ → Result ℕ WriteRefusal
+-- a writer, whatever its refusals are: what it answers to a key, a value, the bytes beside it and a tag, in a room, and the frame
+-- that it leaves
+pub record Writer (E : Type 0) : Type 0 where
+  pub answer : ℕ → Given → List ℕ → ℕ → ℕ → Result ℕ E
   pub frame : ℕ → Given → List ℕ → ℕ → List ℕ
 
 -- ours
-abbrev pub writer : Writer
+abbrev pub writer : Writer WriteRefusal
 writer = record { answer = write_answer; frame = λ key given s tag. frame_of (payload_of key given s tag) }
 
 -- demand 2: each frame written reads back as its record, whatever follows it
-abbrev pub ReadsBackFor : Writer → Type 0
+abbrev pub ReadsBackFor : {E : Type 0} → Writer E → Type 0
 ReadsBackFor w = (key tag room n : ℕ) (given : Given) (s rest : List ℕ) → GivenFits given → w.answer key given s tag room ≡ Ok n
     → (c : Content) × (read_frame (w.frame key given s tag ++ rest) ≡ accepted n key tag c) × Named (class_of key) (w.frame key given s tag) given s c
 
@@ -199,17 +201,17 @@ BufferReadsBack = (key tag n : ℕ) (given : Given) (s before after : List ℕ) 
     → Leaves (write_answer key given s tag (length before)) (payload_of key given s tag) before (Ok n) after
     → (c : Content) × (read_frame after ≡ accepted n key tag c) × Named (class_of key) (frame_of (payload_of key given s tag)) given s c
 
--- a writer of handshakes: what it answers to a range in a room, and the frame that it leaves
-pub record HandshakeWriter : Type 0 where
-  pub answer : ℕ → ℕ → ℕ → Result ℕ WriteRefusal
+-- a writer of handshakes, whatever its refusals are: what it answers to a range in a room, and the frame that it leaves
+pub record HandshakeWriter (E : Type 0) : Type 0 where
+  pub answer : ℕ → ℕ → ℕ → Result ℕ E
   pub frame : ℕ → ℕ → List ℕ
 
 -- ours
-abbrev pub handshake_writer : HandshakeWriter
+abbrev pub handshake_writer : HandshakeWriter WriteRefusal
 handshake_writer = record { answer = handshake_written; frame = λ low high. frame_of (handshake_payload low high) }
 
 -- each handshake written reads back as its range
-abbrev pub HandshakeReadsBackFor : HandshakeWriter → Type 0
+abbrev pub HandshakeReadsBackFor : {E : Type 0} → HandshakeWriter E → Type 0
 HandshakeReadsBackFor w = (low high room n : ℕ) (rest : List ℕ) → w.answer low high room ≡ Ok n → read_frame (w.frame low high ++ rest) ≡ accepted_handshake n low high
 
 abbrev pub HandshakeReadsBack : Type 0
@@ -236,7 +238,7 @@ bytes_of f (versions low high) = []
 
 -- demand 2: an accepted frame of a key that is written, unless its value is ignored, is written again, given room, as the
 -- same bytes but for the case of hex letters
-abbrev pub WritesBackFor : Writer → Type 0
+abbrev pub WritesBackFor : {E : Type 0} → Writer E → Type 0
 WritesBackFor w = (f : List ℕ) (a : Answer) (room : ℕ) → read_frame f ≡ a → a.code ≡ 0 → a.kind ≡ message → is_written a.key ≡ true → (class_of a.key ≡ Class.Ignored → ⊥) → a.consumed ≤ room
     → (w.answer a.key (given_of a.value) (bytes_of f a.value) a.tag room ≡ Ok a.consumed)
     × (w.frame a.key (given_of a.value) (bytes_of f a.value) a.tag ≡ upper_header (take a.consumed f))

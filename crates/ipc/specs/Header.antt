@@ -38,22 +38,41 @@ header_in (suc k) i v (c ∷ cs) = elim (ltb (hex_value c) 16) [ true ↦ header
 unfoldable pub read_header : List ℕ → Result ℕ Refusal
 read_header s = header_in header_length 0 0 s
 
--- document 01's code and offset for what reading a header finds; 0 and 0 for a length
+-- reading a header finds nothing but a number, too few bytes, or the offset of a byte that is no hex digit
+pub data HeaderFound : Result ℕ Refusal → Type 0 where
+  number : (n : ℕ) → HeaderFound (Ok n)
+  short : HeaderFound (Err Refusal.Incomplete)
+  no_digit : (at : ℕ) → HeaderFound (Err (Refusal.NoDigit at))
+
+-- document 01's code and offset for it; 0 and 0 for a number. Another refusal never comes, and has the reader's
 abbrev pub header_code : Result ℕ Refusal → ℕ
 header_code (Ok n) = 0
+header_code (Err Refusal.Incomplete) = 1
+header_code (Err (Refusal.NoDigit at)) = 2
 header_code (Err r) = refusal_code r
 
 abbrev pub header_offset : Result ℕ Refusal → ℕ
 header_offset (Ok n) = 0
+header_offset (Err Refusal.Incomplete) = 0
+header_offset (Err (Refusal.NoDigit at)) = at
 header_offset (Err r) = (refusal_answer r).offset
 
 -- a payload's length against the protocol's limit and this library's
 unfoldable pub sized : ℕ → Result PayloadLength Refusal
 sized n = cond (ltb protocol_payload n) (Err Refusal.OverProtocol) (cond (ltb largest_payload n) (Err Refusal.OverLimit) (Ok (record { 0 = n })))
 
--- document 01's code for it: 3 over the protocol's limit, 4 over this library's, and 0 for neither
+-- a length is nothing but taken, over the protocol's limit, or over this library's
+pub data SizeFound : Result PayloadLength Refusal → Type 0 where
+  taken : (n : PayloadLength) → SizeFound (Ok n)
+  over_protocol : SizeFound (Err Refusal.OverProtocol)
+  over_limit : SizeFound (Err Refusal.OverLimit)
+
+-- document 01's code for it: 3 over the protocol's limit, 4 over this library's, and 0 for neither. Another refusal never
+-- comes, and has the reader's
 abbrev pub size_code : Result PayloadLength Refusal → ℕ
 size_code (Ok n) = 0
+size_code (Err Refusal.OverProtocol) = 3
+size_code (Err Refusal.OverLimit) = 4
 size_code (Err r) = refusal_code r
 
 abbrev pub length_code : ℕ → ℕ

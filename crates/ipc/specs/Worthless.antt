@@ -9,7 +9,6 @@ use Rattle.ipc.specs.Reader.{read_frame}
 use Rattle.ipc.specs.Writer.{frame_of}
 use Rattle.ipc.specs.HandshakeWriter.{handshake_written}
 use Rattle.ipc.specs.Demands.{AcceptsExactlyFor, AcceptsExactlyByFor, AnswersByRowFor, GivenFits, Writer, writer, ReadsBackFor, handshake_writer, HandshakeReadsBackFor, WritesBackFor}
-use Rattle.ipc.specs.declared.writer.WriteRefusal.{WriteRefusal}
 
 -- a reader that refuses always, with whatever numbers, falls by demand 1, and by demand 2
 abbrev pub RefusingReaderFalls : Type 0
@@ -24,12 +23,12 @@ abbrev pub LooseReaderFalls : Type 0
 LooseReaderFalls = (read : Profile → List ℕ → Answer) → ((s : List ℕ) → read Profile.Strict s ≡ read_frame s) → AcceptsExactlyByFor read → ⊥
 
 -- a writer that leaves a frame and counts another number of bytes than it has, be it for one message only, falls by demand 2
-abbrev pub InventedCountFalls : Type 0
-InventedCountFalls = (w : Writer) (key tag room n : ℕ) (given : Given) (s payload : List ℕ) → GivenFits given → length payload ≤ largest_payload
+abbrev pub InventedCountFalls : Type 1
+InventedCountFalls = (E : Type 0) (w : Writer E) (key tag room n : ℕ) (given : Given) (s payload : List ℕ) → GivenFits given → length payload ≤ largest_payload
     → w.frame key given s tag ≡ frame_of payload → w.answer key given s tag room ≡ Ok n → (n ≡ length (frame_of payload) → ⊥) → ReadsBackFor w → ⊥
 
 -- an answer with one byte more in its count
-abbrev pub one_more : Result ℕ WriteRefusal → Result ℕ WriteRefusal
+abbrev pub one_more : {E : Type 0} → Result ℕ E → Result ℕ E
 one_more (Ok n) = Ok (n + 1)
 one_more (Err c) = Err c
 
@@ -41,6 +40,6 @@ abbrev pub HandshakeOneMoreFalls : Type 0
 HandshakeOneMoreFalls =
     HandshakeReadsBackFor (record { answer = λ low high room. one_more (handshake_written low high room); frame = handshake_writer.frame }) → ⊥
 
--- a writer that refuses always falls by demand 2: what is read is not written again
-abbrev pub RefusingWriterFalls : Type 0
-RefusingWriterFalls = (w : Writer) → ((key tag room n : ℕ) (given : Given) (s : List ℕ) → w.answer key given s tag room ≡ Ok n → ⊥) → WritesBackFor w → ⊥
+-- a writer that refuses always, by whatever refusals, falls by demand 2: what is read is not written again
+abbrev pub RefusingWriterFalls : Type 1
+RefusingWriterFalls = (E : Type 0) (w : Writer E) → ((key tag room n : ℕ) (given : Given) (s : List ℕ) → w.answer key given s tag room ≡ Ok n → ⊥) → WritesBackFor w → ⊥

@@ -21,6 +21,11 @@ use Rattle.ipc.specs.Format.{largest_port, items_end}
 use Rattle.ipc.specs.declared.writer.WriteRefusal.{WriteRefusal}
 
 -- ---- what a writer answers: document 01's code and count
+-- an answer's code, by the codes of its refusals; 0 for a count
+abbrev pub code_by : {E : Type 0} → (E → ℕ) → Result ℕ E → ℕ
+code_by number (Ok n) = 0
+code_by number (Err e) = number e
+
 abbrev pub write_refusal_code : WriteRefusal → ℕ
 write_refusal_code WriteRefusal.Key = 40
 write_refusal_code WriteRefusal.Value = 41
@@ -29,15 +34,14 @@ write_refusal_code WriteRefusal.Length = 43
 write_refusal_code WriteRefusal.Room = 44
 
 abbrev pub written_code : Result ℕ WriteRefusal → ℕ
-written_code (Ok n) = 0
-written_code (Err e) = write_refusal_code e
+written_code r = code_by write_refusal_code r
 
-abbrev pub written_count : Result ℕ WriteRefusal → ℕ
+abbrev pub written_count : {E : Type 0} → Result ℕ E → ℕ
 written_count (Ok n) = n
 written_count (Err e) = 0
 
 -- the buffer after an answer: the frame and then the bytes as they were, or all as it was
-abbrev pub buffer_after : Result ℕ WriteRefusal → List ℕ → List ℕ → List ℕ
+abbrev pub buffer_after : {E : Type 0} → Result ℕ E → List ℕ → List ℕ → List ℕ
 buffer_after (Ok n) frame before = at_front frame before
 buffer_after (Err e) frame before = before
 
@@ -150,9 +154,13 @@ message_fault key given s tag =
 unfoldable pub write_answer : ℕ → Given → List ℕ → ℕ → ℕ → Result ℕ WriteRefusal
 write_answer key given s tag room = result_and (message_fault key given s tag) (fitted (payload_of key given s tag) room)
 
--- what a writer did: its answer, also as document 01's code and count, and the whole buffer
-pub record Leaves (answer : Result ℕ WriteRefusal) (payload before : List ℕ) (r : Result ℕ WriteRefusal) (after : List ℕ) : Type 0 where
+-- what a writer with any refusals did: its answer, also as code and count, and the whole buffer
+pub record LeavesBy {E : Type 0} (number : E → ℕ) (answer : Result ℕ E) (payload before : List ℕ) (r : Result ℕ E) (after : List ℕ) : Type 0 where
   pub answered : r ≡ answer
-  pub code : written_code r ≡ written_code answer
+  pub code : code_by number r ≡ code_by number answer
   pub count : written_count r ≡ written_count answer
   pub buffer : after ≡ buffer_after r (frame_of payload) before
+
+-- what ours did, with document 01's codes
+abbrev pub Leaves : Result ℕ WriteRefusal → List ℕ → List ℕ → Result ℕ WriteRefusal → List ℕ → Type 0
+Leaves answer payload before r after = LeavesBy write_refusal_code answer payload before r after

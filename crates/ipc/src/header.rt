@@ -1,6 +1,6 @@
 // The header of a frame: 8 hex digits of either case for the payload's length.
 ghost use Rattle.std.specs.Prelude.{◌≡◌};
-ghost use Rattle.ipc.specs.Header.{read_header, header_code, header_offset, sized, size_code, length_code};
+ghost use Rattle.ipc.specs.Header.{read_header, HeaderFound, header_code, header_offset, sized, SizeFound, size_code, length_code};
 
 use super::reading::Refusal;
 
@@ -17,10 +17,11 @@ impl PayloadLength {
     // The longest payload that the protocol has.
     pub const PROTOCOL: u32 = 2147483640;
 
-    #[tactic(auto, unfolding(crate::specs::Header::sized))]
+    #[tactic(auto, unfolding(crate::specs::Header::sized), using(crate::proofs::headers::HeaderLaws::sizes))]
     pub fn new(n: u32) -> Result<PayloadLength, Refusal>
         ensures answer { result ≡ sized n }
         ensures numbers { size_code result ≡ length_code n }
+        ensures found { SizeFound result }
     {
         if PayloadLength::PROTOCOL < n {
             return Err(Refusal::OverProtocol);
@@ -42,6 +43,7 @@ impl PayloadLength {
 pub fn read_header(s: &[u8]) -> Result<u32, Refusal>
     ensures answer { result ≡ read_header s.now }
     ensures numbers { (header_code result ≡ header_code (read_header s.now)) × (header_offset result ≡ header_offset (read_header s.now)) }
+    ensures found { HeaderFound result }
 {
     let mut value = 0;
     for i in 0..HEADER_LENGTH {

@@ -121,22 +121,23 @@ impl Numbers {
         consumed: 0,
         value: ValueNumbers::NONE,
     };
+
+    // The numbers of a refusal with any code and offset.
+    pub fn of_refusal(code: u8, offset: usize) -> Numbers
+        ensures { result ≡ numbers_of (refused code offset) }
+    {
+        Numbers {
+            code,
+            offset,
+            ..Numbers::NONE
+        }
+    }
 }
 
 fn tag_number(tag: Option<Tag>) -> u32
     ensures { result ≡ tag_number tag }
 {
     tag.map_or(0, |t| t.number())
-}
-
-fn of_refusal(code: u8, offset: usize) -> Numbers
-    ensures { result ≡ numbers_of (refused code offset) }
-{
-    Numbers {
-        code,
-        offset,
-        ..Numbers::NONE
-    }
 }
 
 fn of_message(message: Message, consumed: usize) -> Numbers
@@ -178,13 +179,13 @@ fn refusal_numbers(refusal: Refusal) -> Numbers
     ensures { result ≡ numbers_of (refusal_answer refusal) }
 {
     match refusal {
-        Refusal::Incomplete => of_refusal(1, 0),
-        Refusal::NoDigit(at) => of_refusal(2, at),
-        Refusal::OverProtocol => of_refusal(3, 0),
-        Refusal::OverLimit => of_refusal(4, 0),
-        Refusal::Payload(f) => of_refusal(f.cause.code(), f.offset),
-        Refusal::NoMessage => of_refusal(20, 0),
-        Refusal::NoHandshake => of_refusal(21, 0),
+        Refusal::Incomplete => Numbers::of_refusal(1, 0),
+        Refusal::NoDigit(at) => Numbers::of_refusal(2, at),
+        Refusal::OverProtocol => Numbers::of_refusal(3, 0),
+        Refusal::OverLimit => Numbers::of_refusal(4, 0),
+        Refusal::Payload(f) => Numbers::of_refusal(f.cause.code(), f.offset),
+        Refusal::NoMessage => Numbers::of_refusal(20, 0),
+        Refusal::NoHandshake => Numbers::of_refusal(21, 0),
         Refusal::OffFormat { key, tag } => of_off_format(key, tag),
     }
 }

@@ -7,7 +7,6 @@ use mathlib.Core.List.{List}
 use native.Mathlib.Omega.{arith}
 use borrow.Author.Tests.{eq-eqb, ne_eqb}
 use lib.Dec.{eqb}
-use lib.IntN.{ℤ}
 use mir.Syntax.{w64}
 use mir.Val.{SFits}
 use Rattle.bencode.specs.declared.fault.Fault.{Fault}
@@ -17,11 +16,11 @@ use Rattle.bencode.specs.declared.strings.Text.{Text}
 use Rattle.octets.specs.Ascii.{ascii}
 use Rattle.octets.specs.Bytes.{byte_at}
 use Rattle.bencode.specs.Field.{field_of, if_integer, integer_in}
-use Rattle.bencode.specs.Integers.{integer_at, within, number_of}
+use Rattle.bencode.specs.Integers.{integer_at}
 use Rattle.bencode.specs.Loop.{next, Past, Onward}
 use Rattle.bencode.specs.Skip.{skip_rest}
 use Rattle.bencode.specs.Strings.{string_at, text_of}
-use Rattle.bencode.proofs.walking.Ends.{integer_fits_lem, integer_ends, string_whole_inv}
+use Rattle.bencode.proofs.walking.Ends.{integer_ends, string_whole_inv}
 use Rattle.bencode.proofs.lookup.FieldLaws.{field_is, integer_other, field_ends}
 use Rattle.bencode.proofs.loops.LoopLaws.{items_end_lem, items_done, items_next}
 use Rattle.bencode.proofs.scalars.Ranges.{machine, same}

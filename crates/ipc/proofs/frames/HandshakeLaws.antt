@@ -2,7 +2,7 @@
 -- Assumes nothing.
 use Prim.Native.Nat.{ℕ}
 use mathlib.Core.Path.{◌≡◌, refl}
-use mathlib.Core.List.{List, [], ◌∷◌}
+use mathlib.Core.List.{List}
 use lib.IntN.{ℤ}
 use mir.Syntax.{w64}
 use mir.Val.{SFits}
@@ -12,7 +12,7 @@ use Rattle.bencode.proofs.lookup.FieldLaws.{field_is, integer_other}
 use Rattle.bencode.specs.declared.integers.Number.{Number}
 use Rattle.octets.specs.Ascii.{ascii}
 use Rattle.bencode.proofs.scalars.Ranges.{machine, same}
-use Rattle.ipc.specs.Handshake.{range_at, versions_in, dictionary_versions}
+use Rattle.ipc.specs.Handshake.{range_at, dictionary_versions}
 use Rattle.ipc.specs.Versions.{range_of}
 use Rattle.std.specs.Prelude.{Some, None}
 

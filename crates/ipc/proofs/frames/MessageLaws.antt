@@ -4,11 +4,10 @@ use Prim.Native.Nat.{ℕ}
 use mathlib.Core.Path.{◌≡◌, refl}
 use mathlib.Core.List.{List}
 use borrow.Author.Tests.{eq-eqb, ne_eqb}
-use lib.IntN.{ℤ}
 use Rattle.bencode.specs.declared.fault.Fault.{Fault}
 use Rattle.octets.specs.Bytes.{byte_at, slice}
 use Rattle.bencode.specs.Strings.{string_at, text_of}
-use Rattle.bencode.specs.Integers.{integer_at, number_of}
+use Rattle.bencode.specs.Integers.{integer_at}
 use Rattle.bencode.specs.Item.{item_at}
 use Rattle.bencode.proofs.scalars.Ranges.{machine, same}
 use Rattle.bencode.proofs.walking.Ends.{integer_fits_lem}

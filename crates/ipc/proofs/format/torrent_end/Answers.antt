@@ -2,9 +2,7 @@
 -- Assumes nothing.
 use mathlib.Core.Path.{sym, ◌∙◌}
 use Prim.Native.Nat.{◌+◌}
-use native.Mathlib.Omega.{arith}
 use Rattle.octets.specs.Ascii.{ascii}
-use Rattle.octets.proofs.digits.NumeralLaws.{inside}
 use Rattle.bencode.proofs.lookup.FieldLaws.{field_fits}
 use Rattle.ipc.proofs.formats.FormatLaws.{torrent_other, torrent_missing_id, torrent_no_id, torrent_id}
 use Rattle.ipc.proofs.format.torrent_end.Goals as goal

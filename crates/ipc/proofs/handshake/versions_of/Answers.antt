@@ -3,7 +3,6 @@
 use mathlib.Core.Path.{refl, sym, ap, ◌∙◌}
 use Rattle.std.specs.Prelude.{Some}
 use Rattle.octets.specs.Ascii.{ascii}
-use Rattle.bencode.specs.declared.integers.Number.{Number}
 use Rattle.bencode.proofs.lookup.FieldLaws.{field_fits}
 use Rattle.ipc.proofs.frames.HandshakeLaws.{versions_missing, versions_integer, versions_dictionary, versions_text, versions_list}
 use Rattle.ipc.proofs.handshake.versions_of.Goals as goal

@@ -1,16 +1,20 @@
 -- `ipc::header::read_header` meets its contract.
 -- Assumes nothing.
-use Rattle.std.proofs.Common.{◌≡◌, ℕ, ◌<◌, length, get_or, ap, ◌∙◌, arith, Result, Some, None}
+use Rattle.std.proofs.Common.{◌≡◌, ℕ, ◌<◌, List, length, get_or, ap, ◌∙◌, arith, Result, Some, None}
 use Rattle.std.proofs.lemmas.Result.{err_from_is_err_and}
 use Rattle.ipc.specs.declared.reading.Refusal.{Refusal}
-use Rattle.ipc.specs.Header.{hex_value, header_code, header_offset}
-use Rattle.ipc.proofs.headers.HeaderLaws.{digit_same, digit_none, head_start, head_fits, head_more, head_short, head_none, head_done}
+use Rattle.ipc.specs.Header.{hex_value, read_header, HeaderFound, header_code, header_offset}
+use Rattle.ipc.proofs.headers.HeaderLaws.{digit_same, digit_none, head_start, head_fits, head_more, head_short, head_none, head_done, header_found}
 use Rattle.ipc.proofs.header.read_header.Goals.{In_ok-digit}
 use Rattle.ipc.proofs.header.read_header.Goals as goal
 
 -- document 01's numbers follow from what is read
 numbered : {r h : Result ℕ Refusal} → r ≡ h → (header_code r ≡ header_code h) × (header_offset r ≡ header_offset h)
 numbered e = (ap header_code e, ap header_offset e)
+
+-- and nothing else is found
+found : (s : List ℕ) {r : Result ℕ Refusal} → r ≡ read_header s → HeaderFound r
+found s e = rw e (header_found s)
 
 -- the digit that is read
 digit : (c : In_ok-digit) → (c.loop-i.i < length c.args.s.now) × (c.in_ok-digit.digit < 16) × (c.in_ok-digit.digit ≡ hex_value (get_or c.args.s.now c.loop-i.i 0))
@@ -35,7 +39,7 @@ returns-in_err-byte c =
     let head = head_short c.loop-i.invariant c.loop-i-test.true short in
     let w = c.in_err-byte.was in
     let r : c.from_residual.result ≡ _ = cc (head, e.1, e.2) in
-    record { answer = r; numbers = numbered r }
+    record { answer = r; numbers = numbered r; found = found c.args.s.now r }
 
 pub returns-in_err-digit : goal.returns-in_err-digit
 returns-in_err-digit c =
@@ -49,7 +53,7 @@ returns-in_err-digit c =
     let head = head_none c.loop-i.invariant c.loop-i-test.true there.0 (rw read at large) in
     let w = c.in_err-digit.was in
     let r : c.from_residual-in_err-digit.result ≡ _ = cc (head, e.1, e.2) in
-    record { answer = r; numbers = numbered r }
+    record { answer = r; numbers = numbered r; found = found c.args.s.now r }
 
 pub overflow_mul-value : goal.overflow_mul-value
 overflow_mul-value c =
@@ -69,4 +73,4 @@ loop-i-preserved c =
 pub returns : goal.returns
 returns c =
     let e = head_done c.loop-i.invariant c.loop-i-test.false in
-    record { answer = e; numbers = numbered e }
+    record { answer = e; numbers = numbered e; found = found c.args.s.now e }
