@@ -17,7 +17,8 @@ fn answer(d: &Desk, call: Call, out: &mut [u8]) -> Result<Accepted, Refusal>
     }
     let mut frames = [0u8; LONGEST_FRAMES];
     let n = d.put_commands(&mut frames, call);
-    if out.len() < n {
+    let short = out.len() < n;
+    if short {
         return Err(Refusal::Room);
     }
     Ok(Accepted::Sent(put_bytes(out, 0, &frames[..n])))
@@ -33,6 +34,8 @@ pub fn perform(d: Desk, call: Call, out: &mut [u8]) -> Done
             answer,
             desk: d.after(call),
         },
+        // Stays: an arm of its own, so that the must-fail edit refusal_changes is refused for its record and not for its form.
+        Err(Refusal::Room) => Done { answer, desk: d },
         Err(_) => Done { answer, desk: d },
     }
 }

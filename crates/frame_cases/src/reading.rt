@@ -1,4 +1,7 @@
 // A reading as it is printed.
+ghost use Rattle.std.specs.Prelude.{◌≡◌, Some};
+ghost use Rattle.frame_cases.specs.Reading.{kind_text, value_text, line_text};
+
 use ipc::{Numbers, ValueNumbers};
 use std::fmt;
 
@@ -7,6 +10,8 @@ use std::fmt;
 struct Value(ValueNumbers);
 
 impl fmt::Display for Value {
+    ghost output = { λ v. Some (value_text v.0) };
+
     fn fmt<W: fmt::Write>(&self, f: &mut fmt::Formatter<W>) -> fmt::Result {
         let v = self.0;
         match v.kind {
@@ -25,24 +30,28 @@ impl fmt::Display for Value {
 pub struct Line(pub Numbers);
 
 impl Line {
-    // A letter for what was read; a line names the message of a value off its format too.
-    fn kind(&self) -> char {
+    // A letter for what was read, and a space; a line names the message of a value off its format too.
+    fn kind(&self) -> &'static str
+        ensures { result.now ≡ kind_text self.now.0 }
+    {
         match (self.0.kind, self.0.code) {
-            (Numbers::HANDSHAKE, _) => 'h',
-            (Numbers::MESSAGE, _) | (_, Numbers::OFF_FORMAT) => 'm',
-            _ => '-',
+            (Numbers::HANDSHAKE, _) => "h ",
+            (Numbers::MESSAGE, _) | (_, Numbers::OFF_FORMAT) => "m ",
+            _ => "- ",
         }
     }
 }
 
 impl fmt::Display for Line {
+    ghost output = { λ line. Some (line_text line.0) };
+
     fn fmt<W: fmt::Write>(&self, f: &mut fmt::Formatter<W>) -> fmt::Result {
         let n = self.0;
         let kind = self.kind();
         let value = Value(n.value);
         write!(
             f,
-            "{} {} {} {kind} {} {} {value}",
+            "{} {} {} {kind}{} {} {value}",
             n.code, n.offset, n.consumed, n.key, n.tag
         )
     }

@@ -40,12 +40,12 @@ returns-then-defers c =
     (outcome_deferred c.args.call (length c.args.out.now) d (sym c.in_ok-check.ensures) (sym c.defers.ensures ∙ c.if-defers.true))
     refl refl refl
 
-pub returns-then-out-n : goal.returns-then-out-n
-returns-then-out-n c =
+pub returns-then-short : goal.returns-then-short
+returns-then-short c =
     let d = c.args.d.now in
     let bytes = frames_of (commands_of c.args.call d) in
     let frames = front c.args.call d (sym c.in_ok-check.ensures) c.put_commands-n.ensures in
-    let short : length c.args.out.now < length bytes = omega (arith, frames.counted) in
+    let short : length c.args.out.now < length bytes = omega (arith, frames.counted, c.if-short.true) in
     nothing_sent (refused 34 d)
     (outcome_sends c.args.call (length c.args.out.now) d (sym c.in_ok-check.ensures) (sym c.defers.ensures ∙ c.if-defers.false)
     ∙ delivered_short d (desk_after c.args.call d) bytes c.args.out.now short)
@@ -62,4 +62,4 @@ returns c =
     let d = c.args.d.now in
     let frames = front c.args.call d (sym c.in_ok-check.ensures) c.put_commands-n.ensures in
     answered_as (outcome_sends c.args.call (length c.args.out.now) d (sym c.in_ok-check.ensures) (sym c.defers.ensures ∙ c.if-defers.false))
-    (delivered_put d (desk_after c.args.call d) (frames_of (commands_of c.args.call d)) c.args.out.now (omega (arith, frames.counted, c.if-out-n.false)) (rw frames.front at c.put_bytes.ensures))
+    (delivered_put d (desk_after c.args.call d) (frames_of (commands_of c.args.call d)) c.args.out.now (omega (arith, frames.counted, c.if-short.false)) (rw frames.front at c.put_bytes.ensures))

@@ -1,6 +1,5 @@
-use Rattle.std.proofs.Common.{rules, arith, false, ◌≡◌, ℕ, ◌+◌, ◌<◌, length, List, [], ◌∷◌, ◌++◌, get_or, take, sym, ap, ◌∙◌}
+use Rattle.std.proofs.Common.{rules, arith, ◌≡◌, ℕ, ◌+◌, ◌<◌, length, List, [], ◌∷◌, ◌++◌, get_or, take, sym, ap, ◌∙◌}
 use Rattle.std.proofs.Output.{has_written_append, has_written_of_eq}
-use Rattle.std.proofs.lemmas.Fmt.{hex_byte}
 use Rattle.std.proofs.lemmas.List.{take_more}
 use Rattle.std.proofs.lemmas.Grind.{flat_map-append}
 use Rattle.cases.specs.Hex.{byte_digits, hex_text}
@@ -14,4 +13,4 @@ pub loop-b-preserved : goal.loop-b-preserved
 loop-b-preserved g c = λ plain.
     let h = c.loop-b.invariant plain in
     let more = one_more c.args.self.now.0.now c.loop-b.b-index (omega arith) in
-    has_written_of_eq _ _ _ _ _ more (has_written_append _ _ _ _ _ _ h (rw (← hex_byte false (get_or c.args.self.now.0.now c.loop-b.b-index 0) (search rules)) (search rules)))
+    has_written_of_eq _ _ _ _ _ more (has_written_append _ _ _ _ _ _ h (search rules))
