@@ -18,22 +18,22 @@ use Rattle.octets.proofs.sequences.Order.{clash}
 use Rattle.bencode.specs.Entry.{entry_at}
 use Rattle.bencode.specs.Depth.{largest_depth}
 use Rattle.bencode.specs.Fault.{cause_code, fault, code_of, Walk}
-use Rattle.bencode.specs.Flat.{Levels, at_start, turn, loop_at}
+use Rattle.bencode.specs.Flat.{turn, loop_at}
 use Rattle.bencode.specs.Tokens.{value_token, token_at}
 use Rattle.bencode.specs.Key.{is_used, is_above, is_fault_code, key_fault}
 use Rattle.bencode.specs.KeySearch.{key_text_at, used_at, repeated_at, above_at, key_at}
-use Rattle.bencode.specs.Loop.{LoopStep, Past, repeat, repeat_from}
+use Rattle.bencode.specs.Loop.{Past, repeat}
 use Rattle.bencode.specs.Marks.{place_of, is_marked, with_mark}
 use Rattle.bencode.specs.Scalar.{scalar_at}
 use Rattle.bencode.specs.Skip.{skip_from}
 use Rattle.bencode.specs.Strings.{string_at}
 use Rattle.bencode.specs.Utf8.{text_from, is_text}
 use Rattle.bencode.specs.Walk.{list_from, dictionary_from, value_at, whole, payload_at}
-use Rattle.bencode.specs.Worthless.{DifferentFalls, AnyBytesFalls, is_ascii, AsciiAloneFalls, RowForgottenFalls, DictionaryAsListFalls, InnerKeysKeptFalls, LevelUncountedFalls, NoneEndsAtZero, EndlessFalls, read_walk, read_whole, SamePayloadRead, EndlessReadFalls, EverythingFalls}
+use Rattle.bencode.specs.Worthless.{DifferentFalls, AnyBytesFalls, is_ascii, AsciiAloneFalls, RowForgottenFalls, DictionaryAsListFalls, InnerKeysKeptFalls, LevelUncountedFalls, NoneEndsAtZero, EndlessFalls, coded, coded_whole, EndlessCodesFall, EverythingFalls}
 use Rattle.bencode.proofs.FaultCodes.{faults_coded, value_untrailed}
 use Rattle.bencode.proofs.KeyText.{key_text_lem}
 use Rattle.bencode.proofs.walking.WalkLaws.{value_ends}
-use Rattle.std.specs.Prelude.{Err, Ok, Result}
+use Rattle.std.specs.Prelude.{Err, Ok}
 use Rattle.bencode.specs.declared.fault.Cause.{Cause}
 
 pub different_falls : DifferentFalls
@@ -105,26 +105,17 @@ pub endless_falls : EndlessFalls
 unfolding loop_at
 endless_falls step p s endless demand = none_ends_at_zero p s (sym (ap (whole s) (endless (Ok 0))) ∙ demand p s)
 
-pub endless_read_falls : EndlessReadFalls
-endless_read_falls F read step given p s endless other demand = other (sym (ap (read_whole read s) (endless given)) ∙ demand p s)
-
 no_code_zero : (p : Profile) → is_fault_code p 0 ≡ true → ⊥
 no_code_zero Profile.Loose e = clash false e refl
 no_code_zero Profile.Strict e = clash false e refl
 
--- the numbers of a fault
-abbrev pub numbers : Fault → ℕ × ℕ
-numbers f = (cause_code f.cause, f.offset)
-
--- of a loop with code and offset for a fault, whose answer for turns that do not end is a fault of code 0
-pub endless_numbers_fall : (step : Profile → List ℕ → ℕ → Levels → LoopStep Levels (Result ℕ (ℕ × ℕ))) (p : Profile) (s : List ℕ) → ((answer : Result ℕ (ℕ × ℕ)) → repeat_from s (step p s) answer 0 at_start ≡ answer)
-    → SamePayloadRead numbers (Err (0, 0)) step → ⊥
-endless_numbers_fall step p s endless demand = endless_read_falls (ℕ × ℕ) numbers step (Err (0, 0)) p s endless (λ e. go (payload_at p s) refl e) demand
+pub endless_codes_fall : EndlessCodesFall
+endless_codes_fall X start step p s endless demand = go (payload_at p s) refl (sym (ap (coded_whole s) (endless (Err (0, 0)))) ∙ demand p s)
   where
-    go : (w : Walk) → payload_at p s ≡ w → Err (0, 0) ≡ read_walk numbers w → ⊥
+    go : (w : Walk) → payload_at p s ≡ w → Err (0, 0) ≡ coded w → ⊥
     go (Ok end) q e = let z : ◌≡◌ {A = ℕ} 0 1 = cc in omega arith
     go (Err f) q e =
-        let i : (0, 0) ≡ numbers f = cc in
+        let i : (0, 0) ≡ (cause_code f.cause, f.offset) = cc in
         no_code_zero p (subst (λ (c : ℕ). is_fault_code p c ≡ true) (sym (ap (λ (n : ℕ × ℕ). n.0) i)) (faults_coded p s f q))
 
 pub everything_falls : EverythingFalls

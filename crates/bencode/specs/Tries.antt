@@ -56,7 +56,7 @@ TextsEncoded = (utf8_all (0x41 ∷ 0x2262 ∷ 0x391 ∷ 0x2E ∷ []) ≡ 0x41 �
     × (utf8_all (0xFEFF ∷ 0x233B4 ∷ []) ≡ 0xEF ∷ 0xBB ∷ 0xBF ∷ 0xF0 ∷ 0xA3 ∷ 0x8E ∷ 0xB4 ∷ [])
 
 -- a payload is refused with a code and an offset
-abbrev RefusedAt : Profile → List ℕ → ℕ → ℕ → Type 0
+abbrev pub RefusedAt : Profile → List ℕ → ℕ → ℕ → Type 0
 RefusedAt p s code at = (payload_code p s ≡ code) × (payload_offset p s ≡ at)
 
 -- `d1:` and FF is 10 at the key's first length digit, though no value follows; `d2:` and FF is cut, so 5 at the end; a key

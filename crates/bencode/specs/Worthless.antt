@@ -1,7 +1,6 @@
 -- Statements: wrong builds fall by the demand itself (document 02, requests 03 and 09).
 -- Assumes nothing.
 use Rattle.std.specs.Prelude.{ℕ, ◌≡◌, Bool, true, cond, ◌&&◌, List, [], ◌∷◌, leb, ltb, length, replicate, Ok, Err, Result}
-use Rattle.bencode.specs.declared.fault.Fault.{Fault}
 use Rattle.bencode.specs.declared.profile.Profile.{Profile}
 use Rattle.bencode.specs.declared.tokens.Bracket.{Bracket}
 use Rattle.bencode.specs.Depth.{largest_depth}
@@ -10,7 +9,7 @@ use Rattle.bencode.specs.Loop.{LoopStep, next, done, repeat_from}
 use Rattle.bencode.specs.Utf8.{is_text}
 use Rattle.bencode.specs.Walk.{whole, payload_at}
 use Rattle.bencode.specs.Demands.{KeyTextFor, SamePayloadWith}
-use Rattle.bencode.specs.Fault.{Walk}
+use Rattle.bencode.specs.Fault.{Walk, cause_code}
 
 -- a recogniser that differs from ours, be it on one key only
 abbrev pub DifferentFalls : Type 0
@@ -67,7 +66,7 @@ uncounted before after = cond (ltb before.depth after.depth) (record { row = aft
 abbrev pub LevelUncountedFalls : Type 0
 LevelUncountedFalls = (endless : Walk) → SamePayloadWith endless (altered uncounted) → ⊥
 
--- no payload comes to `Ok 0`
+-- no payload comes to what a walk that ends at 0 comes to: no value ends there, and no fault there is that of bytes that follow
 abbrev pub NoneEndsAtZero : Type 0
 NoneEndsAtZero = (p : Profile) (s : List ℕ) → whole s (Ok 0) ≡ payload_at p s → ⊥
 
@@ -76,27 +75,21 @@ NoneEndsAtZero = (p : Profile) (s : List ℕ) → whole s (Ok 0) ≡ payload_at 
 abbrev pub EndlessFalls : Type 0
 EndlessFalls = (step : Profile → List ℕ → ℕ → Levels → LoopStep Levels Walk) (p : Profile) (s : List ℕ) → ((answer : Walk) → repeat_from s (step p s) answer 0 at_start ≡ answer) → SamePayloadWith (Ok 0) step → ⊥
 
--- a walk whose fault is read as one of another type
-abbrev pub read_walk : {F : Type 0} → (Fault → F) → Walk → Result ℕ F
-read_walk read (Ok end) = Ok end
-read_walk read (Err f) = Err (read f)
+-- a walk with code and offset for a fault
+abbrev pub coded : Walk → Result ℕ (ℕ × ℕ)
+coded (Ok end) = Ok end
+coded (Err f) = Err (cause_code f.cause, f.offset)
 
--- the end of a payload after a walk with faults of that type
-abbrev pub read_whole : {F : Type 0} → (Fault → F) → List ℕ → Result ℕ F → Result ℕ F
-read_whole read s (Ok end) = read_walk read (whole s (Ok end))
-read_whole read s (Err f) = Err f
+-- the end of a payload after such a walk
+abbrev pub coded_whole : List ℕ → Result ℕ (ℕ × ℕ) → Result ℕ (ℕ × ℕ)
+coded_whole s (Ok end) = coded (whole s (Ok end))
+coded_whole s (Err n) = Err n
 
--- `SamePayloadWith` of a loop with such faults
-abbrev pub SamePayloadRead : {F : Type 0} → (Fault → F) → Result ℕ F → (Profile → List ℕ → ℕ → Levels → LoopStep Levels (Result ℕ F)) → Type 0
-SamePayloadRead read endless step = (p : Profile) (s : List ℕ) → read_whole read s (repeat_from s (step p s) endless 0 at_start) ≡ read_walk read (payload_at p s)
-
--- the same of a loop with faults of any type, as which ours are read, and of any answer that the payload does not come to. With code
--- and offset for a fault, a fault of code 0 is such an answer (`FaultsCoded`)
-abbrev pub EndlessReadFalls : Type 1
-EndlessReadFalls = (F : Type 0) (read : Fault → F) (step : Profile → List ℕ → ℕ → Levels → LoopStep Levels (Result ℕ F)) (endless : Result ℕ F) (p : Profile) (s : List ℕ)
-    → ((answer : Result ℕ F) → repeat_from s (step p s) answer 0 at_start ≡ answer)
-    → (read_whole read s endless ≡ read_walk read (payload_at p s) → ⊥)
-    → SamePayloadRead read endless step → ⊥
+-- the same of a loop with any state, and with code and offset for a fault: here it is given a fault of code 0
+abbrev pub EndlessCodesFall : Type 1
+EndlessCodesFall = (X : Type 0) (start : X) (step : Profile → List ℕ → ℕ → X → LoopStep X (Result ℕ (ℕ × ℕ))) (p : Profile) (s : List ℕ)
+    → ((answer : Result ℕ (ℕ × ℕ)) → repeat_from s (step p s) answer 0 start ≡ answer)
+    → ((q : Profile) (t : List ℕ) → coded_whole t (repeat_from t (step q t) (Err (0, 0)) 0 start) ≡ coded (payload_at q t)) → ⊥
 
 -- a walk that accepts everything
 abbrev pub EverythingFalls : Type 0

@@ -18,7 +18,7 @@ value_text v =
     else if v.kind == 4 then codes "h" ++ pair_text v.min v.max
     else codes "-"
 
--- a letter for a handshake, a message or neither, and a space; the refusal 22 is of a message too
+-- a handshake, a message (22 names one too), or neither; and a space
 abbrev pub kind_text : Numbers → List ℕ
 kind_text n = if n.kind == 2 then codes "h " else if n.kind == 1 || n.code == 22 then codes "m " else codes "- "
 
@@ -26,6 +26,7 @@ kind_text n = if n.kind == 2 then codes "h " else if n.kind == 1 || n.code == 22
 abbrev pub field_text : ℕ → List ℕ → List ℕ
 field_text x rest = decimal x ++ (codes " " ++ rest)
 
+-- a line
 abbrev pub line_text : Numbers → List ℕ
 line_text n =
     field_text n.code (field_text n.offset (field_text n.consumed

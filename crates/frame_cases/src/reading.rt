@@ -30,7 +30,7 @@ impl fmt::Display for Value {
 pub struct Line(pub Numbers);
 
 impl Line {
-    // A letter for what was read, and a space; a line names the message of a value off its format too.
+    // A letter for what was read, and a space, both by one write. A line names the message of a value off its format too.
     fn kind(&self) -> &'static str
         ensures { result.now ≡ kind_text self.now.0 }
     {

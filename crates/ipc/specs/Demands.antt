@@ -169,8 +169,8 @@ Named class frame Given.Bytes s c = (at : ℕ) × (c ≡ bytes_named class at (l
 
 -- demand 1: a refusal, by whatever code, has count 0 and leaves the lent buffer as it was
 abbrev pub RefusalKeeps : Type 1
-RefusalKeeps = (E : Type 0) (number : E → ℕ) (answer r : Result ℕ E) (payload before after : List ℕ) → LeavesBy number answer payload before r after
-    → (code_by number r ≡ 0 → ⊥) → (written_count r ≡ 0) × (after ≡ before)
+RefusalKeeps = (E : Type 0) (code_of : E → ℕ) (answer r : Result ℕ E) (payload before after : List ℕ) → LeavesBy code_of answer payload before r after
+    → (code_by code_of r ≡ 0 → ⊥) → (written_count r ≡ 0) × (after ≡ before)
 
 -- a writer, whatever its refusals are: what it answers to a key, a value, the bytes beside it and a tag, in a room, and the frame
 -- that it leaves

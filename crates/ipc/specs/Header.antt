@@ -44,7 +44,7 @@ pub data HeaderFound : Result ℕ Refusal → Type 0 where
   short : HeaderFound (Err Refusal.Incomplete)
   no_digit : (at : ℕ) → HeaderFound (Err (Refusal.NoDigit at))
 
--- document 01's code and offset for it; 0 and 0 for a number. Another refusal never comes, and has the reader's
+-- document 01's code and offset for it; 0 and 0 for a number (no other refusal is found: `HeaderFound`)
 abbrev pub header_code : Result ℕ Refusal → ℕ
 header_code (Ok n) = 0
 header_code (Err Refusal.Incomplete) = 1
@@ -67,8 +67,8 @@ pub data SizeFound : Result PayloadLength Refusal → Type 0 where
   over_protocol : SizeFound (Err Refusal.OverProtocol)
   over_limit : SizeFound (Err Refusal.OverLimit)
 
--- document 01's code for it: 3 over the protocol's limit, 4 over this library's, and 0 for neither. Another refusal never
--- comes, and has the reader's
+-- document 01's code for it: 3 over the protocol's limit, 4 over this library's, and 0 for neither (no other refusal is found:
+-- `SizeFound`)
 abbrev pub size_code : Result PayloadLength Refusal → ℕ
 size_code (Ok n) = 0
 size_code (Err Refusal.OverProtocol) = 3

@@ -23,8 +23,8 @@ use Rattle.ipc.specs.declared.writer.WriteRefusal.{WriteRefusal}
 -- ---- what a writer answers: document 01's code and count
 -- an answer's code, by the codes of its refusals; 0 for a count
 abbrev pub code_by : {E : Type 0} → (E → ℕ) → Result ℕ E → ℕ
-code_by number (Ok n) = 0
-code_by number (Err e) = number e
+code_by code_of (Ok n) = 0
+code_by code_of (Err e) = code_of e
 
 abbrev pub write_refusal_code : WriteRefusal → ℕ
 write_refusal_code WriteRefusal.Key = 40
@@ -155,9 +155,9 @@ unfoldable pub write_answer : ℕ → Given → List ℕ → ℕ → ℕ → Res
 write_answer key given s tag room = result_and (message_fault key given s tag) (fitted (payload_of key given s tag) room)
 
 -- what a writer with any refusals did: its answer, also as code and count, and the whole buffer
-pub record LeavesBy {E : Type 0} (number : E → ℕ) (answer : Result ℕ E) (payload before : List ℕ) (r : Result ℕ E) (after : List ℕ) : Type 0 where
+pub record LeavesBy {E : Type 0} (code_of : E → ℕ) (answer : Result ℕ E) (payload before : List ℕ) (r : Result ℕ E) (after : List ℕ) : Type 0 where
   pub answered : r ≡ answer
-  pub code : code_by number r ≡ code_by number answer
+  pub code : code_by code_of r ≡ code_by code_of answer
   pub count : written_count r ≡ written_count answer
   pub buffer : after ≡ buffer_after r (frame_of payload) before
 
