@@ -3,7 +3,8 @@ ghost use Rattle.std.specs.Prelude.{◌≡◌};
 ghost use Rattle.octets.specs.Bytes.{byte_at};
 ghost use Rattle.bencode.specs.Classes.{class_of};
 ghost use Rattle.bencode.specs.KeySearch.{Sound};
-ghost use Rattle.bencode.specs.Tokens.{key_token, open_token, value_token, token_at};
+ghost use Rattle.bencode.specs.Integers.{integer_at, number_end};
+ghost use Rattle.bencode.specs.Tokens.{key_token, scalar_token, open_token, value_token, token_at};
 
 use super::classes::Classes;
 use super::depth::Depth;
@@ -76,6 +77,14 @@ fn open_token(bracket: Bracket, at: usize, depth: usize) -> Result<Token, Fault>
     Ok(Token::Open(bracket))
 }
 
+// The integer at an offset.
+fn integer_token(s: &[u8], at: usize) -> Result<Token, Fault>
+    ensures { result ≡ scalar_token (number_end (integer_at s.now at)) }
+{
+    let number = integer(s, at)?;
+    Ok(Token::Scalar(number.end))
+}
+
 // The value at an offset, whose first byte has a class.
 fn value_token(s: &[u8], at: usize, class: u8, depth: usize) -> Result<Token, Fault>
     requires { class ≡ class_of (byte_at s.now at) }
@@ -88,8 +97,7 @@ fn value_token(s: &[u8], at: usize, class: u8, depth: usize) -> Result<Token, Fa
         return open_token(Bracket::Dictionary, at, depth);
     }
     if class == b'i' {
-        let number = integer(s, at)?;
-        return Ok(Token::Scalar(number.end));
+        return integer_token(s, at);
     }
     let text = string(s, at)?;
     Ok(Token::Scalar(text.end))
@@ -112,14 +120,16 @@ pub fn token_at(
     ensures { result ≡ token_at profile s.now depth level valued at }
 {
     let class = classes.at(s, at);
-    if !valued && depth == 0 {
-        return Ok(Token::Done(at));
-    }
-    if !valued && class == b'e' {
-        return Ok(Token::Close);
-    }
-    if !valued && matches!(level.bracket, Bracket::Dictionary) {
-        return key_token(s, at, level.seen, profile);
+    if !valued {
+        if depth == 0 {
+            return Ok(Token::Done(at));
+        }
+        if class == b'e' {
+            return Ok(Token::Close);
+        }
+        if matches!(level.bracket, Bracket::Dictionary) {
+            return key_token(s, at, level.seen, profile);
+        }
     }
     value_token(s, at, class, depth)
 }

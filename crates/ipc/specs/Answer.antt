@@ -79,7 +79,11 @@ abbrev pub frame_answer : Frame → Answer
 frame_answer (Frame.Message m used) = accepted used m.key (tag_number m.tag) (content_of m.value)
 frame_answer (Frame.Handshake v used) = accepted_handshake used v.min v.max
 
+-- the answer to a reading, by the answer for each of its refusals
+abbrev pub answer_by : {E : Type 0} → (E → Answer) → Result Frame E → Answer
+answer_by answer (Ok f) = frame_answer f
+answer_by answer (Err e) = answer e
+
 -- document 01's answer for each case of what the reader answers
 abbrev pub answer_of : Result Frame Refusal → Answer
-answer_of (Ok f) = frame_answer f
-answer_of (Err r) = refusal_answer r
+answer_of r = answer_by refusal_answer r

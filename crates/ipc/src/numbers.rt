@@ -1,10 +1,10 @@
 // The reader's answer as numbers, for callers that take no enum. What an answer does not name is 0.
 ghost use Rattle.std.specs.Prelude.{◌≡◌};
-ghost use Rattle.ipc.specs.Answer.{nothing, versions, refused, off_format, accepted, accepted_handshake, tag_number, content_of, refusal_answer, answer_of};
+ghost use Rattle.ipc.specs.Answer.{Answer, nothing, versions, refused, off_format, accepted, accepted_handshake, tag_number, content_of, refusal_answer, answer_by};
 ghost use Rattle.ipc.specs.Numbers.{placed, numbered, value_numbers, numbers_of};
 
 use super::ids::Tag;
-use super::reading::{Frame, Message, Refusal, Value};
+use super::reading::{CodedRefusal, Frame, Message, Refusal, Value};
 use super::versions::Versions;
 
 // The value of an answer, by its kind.
@@ -175,28 +175,46 @@ fn of_off_format(key: u8, tag: Option<Tag>) -> Numbers
     }
 }
 
-fn refusal_numbers(refusal: Refusal) -> Numbers
-    ensures { result ≡ numbers_of (refusal_answer refusal) }
-{
-    match refusal {
-        Refusal::Incomplete => Numbers::of_refusal(1, 0),
-        Refusal::NoDigit(at) => Numbers::of_refusal(2, at),
-        Refusal::OverProtocol => Numbers::of_refusal(3, 0),
-        Refusal::OverLimit => Numbers::of_refusal(4, 0),
-        Refusal::Payload(f) => Numbers::of_refusal(f.cause.code(), f.offset),
-        Refusal::NoMessage => Numbers::of_refusal(20, 0),
-        Refusal::NoHandshake => Numbers::of_refusal(21, 0),
-        Refusal::OffFormat { key, tag } => of_off_format(key, tag),
+// A refusal that has an answer of document 01.
+pub trait IntoNumbers {
+    ghost answer: { Self → Answer };
+
+    fn into_numbers(self) -> Numbers
+        ensures { result ≡ numbers_of (answer self) };
+}
+
+impl IntoNumbers for Refusal {
+    ghost answer = { refusal_answer };
+
+    fn into_numbers(self) -> Numbers {
+        match self {
+            Refusal::Incomplete => Numbers::of_refusal(1, 0),
+            Refusal::NoDigit(at) => Numbers::of_refusal(2, at),
+            Refusal::OverProtocol => Numbers::of_refusal(3, 0),
+            Refusal::OverLimit => Numbers::of_refusal(4, 0),
+            Refusal::Payload(f) => Numbers::of_refusal(f.cause.code(), f.offset),
+            Refusal::NoMessage => Numbers::of_refusal(20, 0),
+            Refusal::NoHandshake => Numbers::of_refusal(21, 0),
+            Refusal::OffFormat { key, tag } => of_off_format(key, tag),
+        }
     }
 }
 
-// The numbers of a reading.
-pub fn numbers_of(reading: Result<Frame, Refusal>) -> Numbers
-    ensures { result ≡ numbers_of (answer_of reading) }
+impl IntoNumbers for CodedRefusal {
+    ghost answer = { λ r. refused r.code r.offset };
+
+    fn into_numbers(self) -> Numbers {
+        Numbers::of_refusal(self.code, self.offset)
+    }
+}
+
+// The numbers of a reading, whatever its refusals are.
+pub fn numbers_of<E: IntoNumbers>(reading: Result<Frame, E>) -> Numbers
+    ensures { result ≡ numbers_of (answer_by E.answer reading) }
 {
     match reading {
         Ok(Frame::Message { message, consumed }) => of_message(message, consumed),
         Ok(Frame::Handshake { versions, consumed }) => of_handshake(versions, consumed),
-        Err(refusal) => refusal_numbers(refusal),
+        Err(refusal) => refusal.into_numbers(),
     }
 }

@@ -62,3 +62,11 @@ impl From<Fault> for Refusal {
         Refusal::Payload(f)
     }
 }
+
+// A refusal by its code and offset alone.
+// Stays: its code is a number, since it may be any.
+#[derive(Clone, Copy)]
+pub struct CodedRefusal {
+    pub code: u8,
+    pub offset: usize,
+}

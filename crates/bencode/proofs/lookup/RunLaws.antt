@@ -65,6 +65,10 @@ module _ (s : List ℕ) (item : ℕ → ℕ → Type 0) (ends : (at end : ℕ) �
       go (same e) = absurd (omega (arith, e, l))
       go (past p) = omega (arith, p)
 
+  -- a run and one item more
+  pub run_item_past : (from at end : ℕ) → Run item from at → item at end → Past s from end
+  run_item_past from at end r i = omega (arith, run_up item (λ (a e : ℕ) (q : item a e). omega (arith, ends a e q)) from at r, ends at end i)
+
 -- ---- a run of values in a list
 module _ (s : List ℕ) (item : ℕ → ℕ → Type 0) (ends : (at end : ℕ) → item at end → Past s at end) (on : (p : Profile) (levels at end : ℕ) → item at end → list_at p levels s end ≡ list_at p levels s at) where
   run_on : (p : Profile) (levels from to : ℕ) → Run item from to → list_at p levels s to ≡ list_at p levels s from

@@ -35,6 +35,11 @@ module _ (s : List ℕ) (from : ℕ) where
   pub few_none : Few s from 0 0
   few_none = record { most = omega arith; below = omega arith; rest = rw (add-zero from) refl }
 
+  few_all : (k n : ℕ) → Few s from k n → 18 ≤ k → Read s from (record { end = from + 18; number = n })
+  few_all k n f h =
+      let all : k ≡ 18 = omega (arith, f.most) in
+      (omega arith, omega arith, rw all at f.below, λ l. absurd (omega (arith, l)))
+
   module _ (k n : ℕ) (f : Few s from k n) (h : k < 18) where
     -- there is room for one more
     few_room : n < 10 ^ 17
@@ -73,6 +78,9 @@ module _ (s : List ℕ) (from : ℕ) where
 
   pub counted_none : Counted s from 0
   counted_none = (0, few_none s from)
+
+  pub counted_all : (k : ℕ) → Counted s from k → 18 ≤ k → Read-end s from (from + 18)
+  counted_all k (n, f) h = read_end (record { end = from + 18; number = n }) (few_all s from k n f h)
 
   module _ (k : ℕ) (f : Counted s from k) (h : k < 18) where
     pub counted_other : is_digit (byte_at s (from + k)) ≡ false → Read-end s from (from + k)

@@ -33,6 +33,10 @@ plain_chunk s at ys e p k h =
     subst Plain same (p k h)
 
 -- fewer bytes
+-- no bytes, and fewer
+pub plain_none : (s : List ℕ) (at : ℕ) → PlainAt s at 0
+plain_none s at k h = absurd (omega (arith, h))
+
 pub plain_fewer : (s : List ℕ) (at n m : ℕ) → m ≤ n → PlainAt s at n → PlainAt s at m
 plain_fewer s at n m l p k h = p k (omega (arith, h, l))
 

@@ -42,6 +42,15 @@ module _ (s : List ℕ) (b : Bound) (best : Option Pick) (p : Pick) where
   pub preferred_written : is_past b (key_of s p) ≡ false → best ≡ preferred_at s b best p
   preferred_written t = rw t refl
 
+  -- the best after an entry stands in the payload where both do
+  pub preferred_inside : Stands s p → Inside s best → Inside s (preferred_at s b best p)
+  preferred_inside h i = go (is_past b (key_of s p)) refl (is_below s best (key_of s p)) refl
+    where
+      go : (t : Bool) → is_past b (key_of s p) ≡ t → (u : Bool) → is_below s best (key_of s p) ≡ u → Inside s (preferred_at s b best p)
+      go true q true r = subst (λ (x : Option Pick). Inside s x) (preferred_new q r) h
+      go true q false r = subst (λ (x : Option Pick). Inside s x) (preferred_old q r) i
+      go false q u r = subst (λ (x : Option Pick). Inside s x) (preferred_written q) i
+
 -- where an entry was picked, it stands in the payload
 pub stands_picked : (s : List ℕ) (o : Option Pick) (p : Pick) → o ≡ Some p → Inside s o → Stands s p
 stands_picked s o p e h = subst (λ (x : Option Pick). Inside s x) e h

@@ -1,12 +1,12 @@
 -- The desk's places: how a list of records lies in them.
 -- Assumes nothing.
 use mathlib.Core.Path.{◌≡◌, refl, sym, ap, ◌∙◌}
-use Prim.Native.Nat.{ℕ, zero, suc, ◌≤◌, min}
+use Prim.Native.Nat.{ℕ, zero, suc, ◌<◌, ◌≤◌, min}
 use native.Mathlib.Omega.{arith}
 use native.Mathlib.Nat.{not-suc-le-zero, le_of_suc-le-suc, suc-min-suc, zero-min}
 use mathlib.Core.Bool.{true}
 use mathlib.Core.List.{List, [], ◌∷◌, ◌++◌}
-use lib.ListN.{length, take, drop, replicate}
+use lib.ListN.{length, get_or, set, take, drop, replicate}
 use lib.Seq.{length-take-le}
 use Rattle.desk.specs.Watch.{empty, places, unused}
 use Rattle.desk.specs.declared.watch.Watch.{Watch}
@@ -23,6 +23,14 @@ unfolding places
 places_after n [] h = sym (places_none n)
 places_after zero (w ∷ ws) h = absurd (not-suc-le-zero h)
 places_after (suc n) (w ∷ ws) h = ap (λ (k : List Watch). w ∷ k) (places_after n ws (le_of_suc-le-suc h))
+
+-- the first i records stored, record i goes to place i
+pub places_set : (n i : ℕ) (l : List Watch) → i < n → i < length l → set (places n (take i l)) i (get_or l i empty) ≡ places n (take (suc i) l)
+unfolding places
+places_set zero i l h g = absurd (not-suc-le-zero h)
+places_set (suc n) i [] h g = absurd (not-suc-le-zero g)
+places_set (suc n) zero (w ∷ l) h g = refl
+places_set (suc n) (suc i) (w ∷ l) h g = ap (λ (k : List Watch). w ∷ k) (places_set n i l (le_of_suc-le-suc h) (le_of_suc-le-suc g))
 
 -- no more records than places count
 pub places_min : (n : ℕ) (l : List Watch) → places n (take (min (length l) n) l) ≡ places n l

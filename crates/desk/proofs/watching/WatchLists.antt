@@ -5,9 +5,9 @@ use native.Mathlib.Omega.{arith}
 use mathlib.Core.Path.{◌≡◌, refl, sym, ap, ap₂, ◌∙◌}
 use mathlib.Core.Bool.{Bool, true, false, cond, not, ◌&&◌, ◌||◌, false≢true, or-false, or-true, or_assoc}
 use mathlib.Core.List.{List, [], ◌∷◌, ◌++◌}
-use lib.Dec.{eqb}
+use lib.Dec.{eqb, ltb}
 use lib.ListN.{length, set}
-use borrow.Author.Tests.{eqb-true, eqb-false, ne_eqb, not-true, eq-eqb}
+use borrow.Author.Tests.{eqb-true, eqb-false, ne_eqb, not-true, eq-eqb, lt-ltb, le-ltb}
 use Rattle.desk.specs.declared.watch.Watch.{Watch}
 use Rattle.desk.specs.Watch.{is_id, has, place, marked, list_fault}
 use Rattle.desk.proofs.general.Cases.{by_cases, both, neither, and_true}
@@ -66,6 +66,23 @@ place_below x (w ∷ ws) h =
     (λ e _. suc-le-suc zero-le)
     (λ e g. suc-le-suc (place_below x ws g))
     h
+
+place_none : (x : ℕ) (ws : List Watch) → has x ws ≡ false → place x ws ≡ length ws
+unfolding has place
+place_none x [] h = refl
+place_none x (w ∷ ws) h =
+    by_cases (λ b. (b || has x ws) ≡ false → cond b 0 (suc (place x ws)) ≡ suc (length ws)) (eqb w.id x)
+    (λ e g. absurd (false≢true (sym g)))
+    (λ e g. ap suc (place_none x ws g))
+    h
+
+-- an ID is among the records where its place is one of theirs
+pub has_place : (x n : ℕ) (ws : List Watch) → length ws ≡ n → ltb (place x ws) n ≡ has x ws
+has_place x n ws e =
+    by_cases (λ b. has x ws ≡ b → ltb (place x ws) n ≡ b) (has x ws)
+    (λ _ h. lt-ltb (place x ws) n (omega (arith, e, place_below x ws h)))
+    (λ _ h. le-ltb (place x ws) n (omega (arith, e, place_none x ws h)))
+    refl
 
 pub has_apart : (x y : ℕ) (ws : List Watch) → has x ws ≡ true → has y ws ≡ false → eqb x y ≡ false
 has_apart x y ws h g = ne_eqb x y (λ e. false≢true (sym g ∙ ap (λ z. has z ws) (sym e) ∙ h))

@@ -14,6 +14,9 @@ use Rattle.ipc.specs.Ids.{largest_tag, tag_of}
 use Rattle.std.specs.Prelude.{Some, None, Option, is_some}
 
 -- ---- tags that are handed in
+pub tag_none : (tag : ℕ) → tag ≡ 0 → true ≡ leb tag largest_tag
+tag_none tag e = rw e refl
+
 -- a number that is none of 0 is a tag up to the largest
 pub tag_is : (tag : ℕ) → (tag ≡ 0 → ⊥) → tag < 2 ^ 63 → (r : Option Tag) → r ≡ tag_of (to_z w64 tag) → is_some r ≡ leb tag largest_tag
 unfolding tag_of

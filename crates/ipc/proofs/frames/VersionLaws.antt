@@ -1,16 +1,17 @@
 -- Laws of ranges of versions, one for each way through their code.
 -- Assumes nothing.
 use Prim.Native.Nat.{ℕ, ◌^◌, ◌≤◌, ◌<◌}
-use mathlib.Core.Path.{◌≡◌, refl, sym, subst, ◌∙◌}
+use mathlib.Core.Path.{◌≡◌, refl, sym, ap, subst, ◌∙◌}
 use mathlib.Core.Bool.{Bool, true, false, cond, ◌&&◌}
 use native.Mathlib.Omega.{arith}
 use borrow.Author.Tests.{leb-true, le-leb, lt-leb}
 use lib.Dec.{T, leb}
 use lib.IntN.{ℤ, pos, negsuc}
+use lib.Signed.{lt_z, le_z}
 use mir.Syntax.{w64}
 use mir.Val.{SFits}
 use Rattle.bencode.specs.Integers.{within}
-use Rattle.bencode.proofs.scalars.Ranges.{machine, natural_machine, same, and_false}
+use Rattle.bencode.proofs.scalars.Ranges.{machine, natural_machine, same, and_false, not_lt, le_yes, ge_yes, Natural}
 use Rattle.ipc.specs.Ids.{number_in}
 use Rattle.ipc.proofs.formats.IdLaws.{Numbered, number_some, number_none}
 use Rattle.ipc.specs.declared.versions.Versions.{Versions}
@@ -44,6 +45,22 @@ unfolding range_of
 no_second (pos m) (pos n) h = no_range m n (λ l o k. out n h (omega arith) k)
 no_second (pos m) (negsuc n) h = rw (and_false (leb 1 m)) refl
 no_second (negsuc m) b h = refl
+
+module _ (a b : ℤ) (fa : SFits w64 a) (fb : SFits w64 b) where
+  order : (t : Bool) → lt_z (machine b) (machine a) ≡ t → lt_z b a ≡ t
+  order t h = ap (λ (x : ℤ). lt_z x a) (sym (same b fb)) ∙ ap (λ (x : ℤ). lt_z (machine b) x) (sym (same a fa)) ∙ h
+
+  -- what the three conditions of a range say: both are naturals
+  pub range_naturals : lt_z (machine a) (pos 1) ≡ false → lt_z (machine b) (machine a) ≡ false → lt_z (pos largest_version) (machine b) ≡ false → Natural largest_version a × Natural largest_version b
+  range_naturals l o h = go a b (le_yes a fa (pos 1) l) (not_lt b a (order false o)) (ge_yes b fb (pos largest_version) h)
+    where
+      go : (a b : ℤ) → le_z (pos 1) a ≡ true → le_z a b ≡ true → le_z b (pos largest_version) ≡ true → Natural largest_version a × Natural largest_version b
+      go (pos m) (pos n) x y z =
+          let j : m ≤ n = leb-true m n y in
+          let k : n ≤ largest_version = leb-true n largest_version z in
+          (record { natural = tt; bound = omega arith }, record { natural = tt; bound = omega arith })
+      go (pos m) (negsuc n) x y z = absurd (subst T (sym y) tt)
+      go (negsuc m) b x y z = absurd (subst T (sym x) tt)
 
 module _ (a b : ℤ) (fa : SFits w64 a) (fb : SFits w64 b) (low : Option ℕ) (p : low ≡ number_in largest_version (machine a)) where
   pub range_first : low ≡ None → None ≡ range_of a b
