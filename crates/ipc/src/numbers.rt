@@ -175,7 +175,7 @@ fn of_off_format(key: u8, tag: Option<Tag>) -> Numbers
     }
 }
 
-// A refusal that has an answer of document 01.
+// A refusal that has an answer.
 pub trait IntoNumbers {
     ghost answer: { Self → Answer };
 

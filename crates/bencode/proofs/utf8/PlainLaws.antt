@@ -32,7 +32,6 @@ plain_chunk s at ys e p k h =
     let same : byte_at ys (0 + k) ≡ byte_at s (at + k) = ap (byte_at ys) z ∙ ap (λ (x : List ℕ). byte_at x k) e ∙ get_or-take 8 (drop at s) k 0 h ∙ get_or-drop at s k 0 in
     subst Plain same (p k h)
 
--- fewer bytes
 -- no bytes, and fewer
 pub plain_none : (s : List ℕ) (at : ℕ) → PlainAt s at 0
 plain_none s at k h = absurd (omega (arith, h))
