@@ -53,9 +53,12 @@ unfolding least_at
 least_step_lem s b at best = repeat_step s (least_step s b) (least_onward s b) (λ (k : ℕ). None) at best
 
 -- ---- one law for each step of the walk over the entries
--- the step of a walk over the payload itself
-pub step_of : {s t : List ℕ} (at after : Place) (o : Option Pick) → t ≡ s → EntryStep t (entry_from t at) o (entry_from t after) → EntryStep s (entry_from s at) o (entry_from s after)
-step_of at after o e h = subst (λ (l : List ℕ). EntryStep l (entry_from l at) o (entry_from l after)) e h
+-- the step of a walk over the payload itself, by places, and by offsets
+pub step_at : {s t : List ℕ} (at after : Place) (o : Option Pick) → t ≡ s → EntryStep t (entry_from t at) o (entry_from t after) → EntryStep s (entry_from s at) o (entry_from s after)
+step_at at after o e h = subst (λ (l : List ℕ). EntryStep l (entry_from l at) o (entry_from l after)) e h
+
+pub step_of : {s t : List ℕ} (at after : ℕ) (o : Option Pick) → t ≡ s → EntryStep t at o after → EntryStep s at o after
+step_of at after o e h = step_at (Place.Entry at) (Place.Entry after) o e h
 
 module _ (s : List ℕ) (at : ℕ) (b : Bound) (after : ℕ) where
   pub rise_end : EntryStep s at None after → true ≡ rises_at s at b
